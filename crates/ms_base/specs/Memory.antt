@@ -1,0 +1,30 @@
+-- The outside in memory: what is held, and the numbers of the calls that fail, counted from 0.
+use Rattle.std.specs.Prelude.{◌≡◌, ℕ, ◌+◌, ◌-◌, ◌^◌, ◌<◌, ◌≤◌, ◌==◌, ◌&&◌, Bool, true, false, List, [], ◌∷◌, ◌++◌, length, map, min, nat_lt, take, drop, Option, Some, None, Result, Ok, Err, IfSome, if◌then◌else◌}
+use Rattle.std.specs.List.{list_any}
+use Rattle.ms_base.specs.declared.outside.Failed.{Failed}
+use Rattle.ms_base.specs.declared.outside.ReadError.{ReadError}
+use Rattle.ms_base.specs.declared.outside.ReadError.TheVariants as errors
+use Rattle.ms_base.specs.declared.memory.InputText.{InputText}
+use Rattle.ms_base.specs.Outside.{SourceView, SinkView, InputsView, shows_end, text_named}
+
+-- one more, as far as the type goes
+abbrev pub one_more : ℕ → ℕ
+one_more n = min (n + 1) (2 ^ 64 - 1)
+
+-- which calls fail, how many were made, and how many failed
+pub record Calls : Type 0 where
+  pub fails : List ℕ
+  pub made : ℕ
+  pub faults : ℕ
+
+-- the next call is to fail
+abbrev pub is_due : Calls → Bool
+is_due calls = list_any (λ n. n == calls.made) calls.fails
+
+-- a call more, which failed or not
+abbrev pub after_call : Bool → Calls → Calls
+after_call failed calls = record { fails = calls.fails; made = one_more calls.made; faults = if failed then one_more calls.faults else calls.faults }
+
+-- the texts by their names
+abbrev pub pairs_of : List InputText → List (List ℕ × List ℕ)
+pairs_of inputs = map (λ i. (i.name, i.text)) inputs

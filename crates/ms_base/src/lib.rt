@@ -1,0 +1,20 @@
+//! The outside of the program: where bytes come from and where they go, with small values for all crates.
+#![tactic(auto)]
+
+pub mod bytes;
+pub mod gate;
+pub mod items;
+pub mod memory;
+pub mod names;
+pub mod outside;
+pub mod standard;
+pub mod streams;
+
+pub use bytes::{Bytes, NoMemory};
+pub use gate::{FreeGate, Gate, Point};
+pub use items::Items;
+pub use memory::{InputText, MemoryInputs, VecSink, VecSource};
+pub use names::{ClientId, Name, Quantity, ServiceId};
+pub use outside::{Failed, Inputs, MOST_INPUT, OutsideError, ReadError, Sink, Source};
+pub use standard::{StdSink, StdSource};
+pub use streams::{read_all, write_all};

@@ -1,0 +1,244 @@
+//! The outside in memory, which fails at the calls that it is told.
+
+ghost use Rattle.std.specs.Prelude.{◌≡◌, ◌<◌, ◌≤◌, ◌+◌, [], length, drop, min, Some, None, Ok, Err, IfSome, MatchOption, IsErr, IsTrue, ◌↔◌, slice_get, OnErr, IfOk};
+ghost use Rattle.std.specs.Option.{option_map};
+ghost use Rattle.ms_base.specs.Counts.{Causes, Rose};
+ghost use Rattle.ms_base.specs.Memory.{is_due, after_call, one_more, pairs_of};
+ghost use Rattle.ms_base.specs.Outside.{text_named};
+ghost use Rattle.ms_base.specs.declared.outside.ReadError.TheVariants as errors;
+
+use crate::bytes::Bytes;
+use crate::outside::{Failed, Inputs, MOST_INPUT, ReadError, Sink, Source};
+use std::alloc::Global;
+use std::marker::Model;
+
+/// Counts the calls, and says which of them fail.
+#[derive(Drop)]
+struct Script {
+    fails: Vec<u64>,
+    made: u64,
+    faults: u64,
+}
+
+impl Model for Script {
+    ghost use Rattle.ms_base.specs.Memory.{Calls};
+
+    ghost Value = { Calls };
+
+    ghost view = { λ s. record { fails = s.fails.items; made = s.made; faults = s.faults } };
+}
+
+impl Script {
+    fn new(fails: Vec<u64>) -> Script
+        ensures { result ≡ record { fails = fails.items; made = 0; faults = 0 } }
+    {
+        Script {
+            fails,
+            made: 0,
+            faults: 0,
+        }
+    }
+
+    /// Whether this call fails.
+    fn call(&mut self) -> bool
+        ensures answer { result ≡ is_due self.old }
+        ensures after { self.new ≡ after_call result self.old }
+        ensures cause { Causes (IsTrue result) self.old.faults self.new.faults }
+    {
+        let failed = self.fails.contains(&self.made);
+        self.made = self.made.saturating_add(1);
+        if failed {
+            self.faults = self.faults.saturating_add(1);
+        }
+        failed
+    }
+
+    /// One fault more.
+    fn fail(&mut self)
+        ensures after { self.new ≡ record self.old { faults = one_more self.old.faults } }
+        ensures rose { Rose self.old.faults self.new.faults }
+        ensures later { self.old.faults ≤ self.new.faults }
+    {
+        self.faults = self.faults.saturating_add(1);
+    }
+
+    fn faults(&self) -> u64
+        ensures { result ≡ self.now.faults }
+    {
+        self.faults
+    }
+}
+
+/// A text that is given in steps.
+#[derive(Drop)]
+pub struct VecSource {
+    text: Bytes,
+    at: usize,
+    step: u64,
+    ended: bool,
+    script: Script,
+    ghost within: { at ≤ length text },
+    ghost stepped: { 0 < step },
+}
+
+impl VecSource {
+    /// Gives at most `step` bytes a call; the calls of the numbers in `fails` fail.
+    pub fn new(text: Bytes, step: u64, fails: Vec<u64>) -> VecSource
+        requires { 0 < step }
+        ensures text { drop result.at result.text ≡ text }
+        ensures faults { result.script.faults ≡ 0 }
+    {
+        VecSource {
+            text,
+            at: 0,
+            step,
+            ended: false,
+            script: Script::new(fails),
+        }
+    }
+}
+
+impl Source for VecSource {
+    ghost seen = { λ s. record { left = Some (drop s.at s.text); ended = s.ended; faults = s.script.faults } };
+
+    fn read(&mut self, into: &mut [u8]) -> Result<usize, Failed> {
+        self.ended = false;
+        if self.script.call() {
+            return Err(Failed);
+        }
+        let left = &self.text.as_slice()[self.at..];
+        let most = self.step.min(left.len() as u64) as usize;
+        let count = most.min(into.len());
+        into[..count].copy_from_slice(&left[..count]);
+        self.at += count;
+        self.ended = count == 0 && !into.is_empty();
+        Ok(count)
+    }
+
+    fn faults(&self) -> u64 {
+        self.script.faults()
+    }
+}
+
+/// What is written, taken in steps.
+#[derive(Drop)]
+pub struct VecSink {
+    text: Vec<u8>,
+    step: u64,
+    script: Script,
+    ghost stepped: { 0 < step },
+}
+
+impl VecSink {
+    /// Takes at most `step` bytes a call; the calls of the numbers in `fails` fail, and so do
+    /// those that find no memory.
+    pub fn new(alloc: Global, step: u64, fails: Vec<u64>) -> VecSink
+        requires { 0 < step }
+        ensures text { result.text.items ≡ [] }
+        ensures faults { result.script.faults ≡ 0 }
+    {
+        VecSink {
+            text: Vec::new(alloc),
+            step,
+            script: Script::new(fails),
+        }
+    }
+
+    /// What was written.
+    pub fn text(&self) -> &[u8]
+        ensures { result.now ≡ self.now.text.items }
+    {
+        &self.text
+    }
+}
+
+impl Sink for VecSink {
+    ghost seen = { λ s. record { contents = Some s.text.items; faults = s.script.faults } };
+
+    fn write(&mut self, from: &[u8]) -> Result<usize, Failed> {
+        if self.script.call() {
+            return Err(Failed);
+        }
+        let count = self.step.min(from.len() as u64) as usize;
+        if self.text.extend_from_slice(&from[..count]).is_err() {
+            self.script.fail();
+            return Err(Failed);
+        }
+        Ok(count)
+    }
+
+    fn faults(&self) -> u64 {
+        self.script.faults()
+    }
+}
+
+/// A text and its name.
+#[derive(Drop)]
+pub struct InputText {
+    pub name: Bytes,
+    pub text: Bytes,
+}
+
+/// Texts by their names, the first of a name counting.
+#[derive(Drop)]
+pub struct MemoryInputs {
+    inputs: Vec<InputText>,
+    ended: bool,
+    script: Script,
+}
+
+impl MemoryInputs {
+    /// The calls of the numbers in `fails` fail.
+    pub fn new(inputs: Vec<InputText>, fails: Vec<u64>) -> MemoryInputs
+        ensures inputs { result.inputs.items ≡ inputs.items }
+        ensures faults { result.script.faults ≡ 0 }
+    {
+        MemoryInputs {
+            inputs,
+            ended: false,
+            script: Script::new(fails),
+        }
+    }
+}
+
+/// The place of the first text of a name.
+fn place_of(inputs: &[InputText], name: &[u8]) -> Option<usize>
+    ensures is { MatchOption result (text_named (pairs_of inputs.now) name.now ≡ None)
+        (λ i. text_named (pairs_of inputs.now) name.now ≡ option_map (λ input. input.text) (slice_get inputs.now i)) }
+    ensures within { IfSome result (λ i. i < length inputs.now) }
+{
+    for i in 0..inputs.len() {
+        if inputs[i].name.as_slice() == name {
+            return Some(i);
+        }
+    }
+    None
+}
+
+impl Inputs for MemoryInputs {
+    ghost seen = { λ s. record { texts = Some (pairs_of s.inputs.items); ended = s.ended; faults = s.script.faults } };
+
+    fn input(&mut self, alloc: Global, name: &str) -> Result<Bytes, ReadError> {
+        self.ended = false;
+        if self.script.call() {
+            return Err(ReadError::Failed);
+        }
+        let Some(place) = place_of(&self.inputs, name.as_bytes()) else {
+            self.script.fail();
+            return Err(ReadError::Failed);
+        };
+        let text = self.inputs[place].text.as_slice();
+        if text.len() as u64 > MOST_INPUT {
+            return Err(ReadError::TooLong {
+                bytes: MOST_INPUT + 1,
+            });
+        }
+        let copy = Bytes::of(alloc, text)?;
+        self.ended = true;
+        Ok(copy)
+    }
+
+    fn faults(&self) -> u64 {
+        self.script.faults()
+    }
+}
