@@ -1,0 +1,13 @@
+//! Texts that are read line by line: lines, words, numbers and hexadecimal, and their printing.
+#![tactic(auto)]
+
+pub mod lines;
+pub mod print;
+pub mod words;
+
+pub use lines::next_line;
+pub use print::{push_name, push_number, push_text};
+pub use words::{bytes, hex_bytes, name, number, split_at_space};
+
+#[cfg(test)]
+mod tests;
