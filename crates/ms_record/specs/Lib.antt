@@ -1,0 +1,12 @@
+pub use Rattle.ms_base.specs.Counts
+pub use Rattle.ms_base.specs.Outside
+pub mod Ballots
+pub mod Plans
+pub mod PlanTests
+pub mod PlanInside
+pub mod Entries
+pub mod Records
+pub mod Fields
+pub mod Reading
+pub mod Votes
+pub mod Chains

@@ -1,0 +1,18 @@
+-- The plan rules as a test. The laws of `Plan::new` tie it to the rules.
+use Rattle.std.specs.Prelude.{ℕ, ◌+◌, ◌/◌, ◌==◌, ◌&&◌, nat_le, nat_lt, Bool, true, false, List, [], ◌∷◌, length}
+use Rattle.ms_record.specs.declared.plan.PlanRow.{PlanRow}
+use Rattle.ms_record.specs.Plans.{PlanView}
+
+abbrev pub is_row : ℕ → PlanRow → Bool
+is_row unit row = nat_lt row.service.0 16 && nat_le 1 (row.capacity / unit) && nat_le (row.capacity / unit) 16
+
+-- rows whose services rise from a lowest one on
+abbrev pub are_rows : ℕ → ℕ → List PlanRow → Bool
+are_rows unit low [] = true
+are_rows unit low (row ∷ rows) = nat_le low row.service.0 && is_row unit row && are_rows unit (row.service.0 + 1) rows
+
+unfoldable pub is_plan : PlanView → Bool
+is_plan p =
+    nat_le 1 p.generation && nat_le p.generation 4294967294 && (p.format == 1) && nat_le 1 p.unit
+    && nat_le 1 (length p.rows) && nat_le (length p.rows) 16 && nat_le 1 p.replicas && nat_le p.replicas (length p.rows)
+    && are_rows p.unit 0 p.rows

@@ -1,0 +1,31 @@
+-- Records of vote lists: their ranges and their one spelling; which records the texts of a list are.
+use Rattle.std.specs.Prelude.{◌≡◌, ℕ, ◌<◌, ◌≤◌, List, [], ◌∷◌, ◌++◌, Option, Some, None}
+use Rattle.std.specs.Int.{w32, to_be_bytes}
+use Rattle.ms_record.specs.declared.ballot.Ballot.{Ballot}
+use Rattle.ms_record.specs.declared.record.Record.{Record}
+use Rattle.ms_record.specs.declared.record.Record.TheVariants.{Prepare, Accept}
+use Rattle.ms_record.specs.Entries.{IsEntry, entry_text}
+
+-- positions and rounds
+abbrev pub last_position : ℕ
+last_position = 4294967294
+
+pub record IsBallot (b : Ballot) : Type 0 where
+  pub some_round : 1 ≤ b.round
+  pub last_round : b.round ≤ 4294967294
+  pub client : b.client.0 < 16
+
+abbrev pub IsPosition : ℕ → Type 0
+IsPosition k = (1 ≤ k) × (k ≤ last_position)
+
+abbrev pub IsRecord : Record → Type 0
+IsRecord (Prepare k b) = IsPosition k × IsBallot b
+IsRecord (Accept k b e) = IsPosition k × IsBallot b × IsEntry e
+
+abbrev pub ballot_text : Ballot → List ℕ
+ballot_text b = to_be_bytes w32 b.round ++ to_be_bytes w32 b.client.0
+
+-- `P` or `A`, the position, round and client, and the entry that is to be accepted
+abbrev pub record_text : Record → List ℕ
+record_text (Prepare k b) = 80 ∷ [] ++ to_be_bytes w32 k ++ ballot_text b
+record_text (Accept k b e) = 65 ∷ [] ++ to_be_bytes w32 k ++ ballot_text b ++ entry_text e

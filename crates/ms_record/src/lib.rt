@@ -1,0 +1,14 @@
+//! Ballots, plans, entries and records of vote lists: their bytes, and what lists of them mean.
+#![tactic(auto)]
+
+pub mod ballot;
+pub mod entry;
+pub mod plan;
+pub mod record;
+pub mod refusal;
+
+pub use ballot::{Ballot, Vote};
+pub use entry::{Entries, Entry};
+pub use plan::{Plan, PlanRow};
+pub use record::Record;
+pub use refusal::{Place, Refusal};
