@@ -1,5 +1,5 @@
 -- The plan rules as a test. The laws of `Plan::new` tie it to the rules.
-use Rattle.std.specs.Prelude.{ℕ, ◌+◌, ◌/◌, ◌==◌, ◌&&◌, nat_le, nat_lt, Bool, true, false, List, [], ◌∷◌, length}
+use Rattle.std.specs.Prelude.{ℕ, ◌+◌, ◌/◌, ◌==◌, ◌&&◌, nat_le, nat_lt, Bool, true, false, List, [], ◌∷◌, length, Option, Some, None, if◌then◌else◌}
 use Rattle.ms_record.specs.declared.plan.PlanRow.{PlanRow}
 use Rattle.ms_record.specs.Plans.{PlanView}
 
@@ -16,3 +16,7 @@ is_plan p =
     nat_le 1 p.generation && nat_le p.generation 4294967294 && (p.format == 1) && nat_le 1 p.unit
     && nat_le 1 (length p.rows) && nat_le (length p.rows) 16 && nat_le 1 p.replicas && nat_le p.replicas (length p.rows)
     && are_rows p.unit 0 p.rows
+
+-- the plan, where it keeps the rules
+abbrev pub plan_if : PlanView → Option PlanView
+plan_if p = if is_plan p then Some p else None

@@ -1,7 +1,6 @@
 -- Reading plans, entries and records from the front of a text. The laws of `parse_entry` and
 -- `parse_record` tie this to the spellings.
-use Rattle.std.specs.Prelude.{ℕ, zero, suc, nat_le, List, [], ◌∷◌, Option, Some, None, if◌then◌else◌}
-use Rattle.std.specs.Option.{option_map}
+use Rattle.std.specs.Prelude.{ℕ, zero, suc, List, [], ◌∷◌, Option, Some, None}
 use Rattle.std.specs.Int.{w32, w64}
 use Rattle.ms_text.specs.Options.{◌>>=◌}
 use Rattle.ms_base.specs.declared.names.Name.{Name}
@@ -12,7 +11,7 @@ use Rattle.ms_record.specs.declared.record.Record.{Record}
 use Rattle.ms_record.specs.declared.record.Record.TheVariants.{Prepare, Accept}
 use Rattle.ms_record.specs.Fields.{Field, tag_at, number_at, within, name_at, at_end}
 use Rattle.ms_record.specs.Plans.{PlanView, plan_of}
-use Rattle.ms_record.specs.PlanTests.{is_plan}
+use Rattle.ms_record.specs.PlanTests.{plan_if}
 
 unfoldable pub row_at : List ℕ → Field PlanRow
 row_at text = do
@@ -38,7 +37,8 @@ plan_at text = do
   n ← number_at w32 u.1
   few ← within 1 16 n
   rows ← rows_at few.0 few.1
-  if is_plan (plan_of g.0 f.0 r.0 u.0 rows.0) then Some (plan_of g.0 f.0 r.0 u.0 rows.0, rows.1) else None
+  plan ← plan_if (plan_of g.0 f.0 r.0 u.0 rows.0)
+  Some (plan, rows.1)
 
 -- the fields that a push and a plan entry share, with no plan yet
 unfoldable pub body_at : List ℕ → Field Entry

@@ -8,7 +8,7 @@ pub mod record;
 pub mod refusal;
 
 pub use ballot::{Ballot, Vote};
-pub use entry::{Entries, Entry};
+pub use entry::{Entries, Entry, entry_name, links_on, parse_entry};
 pub use plan::{Plan, PlanRow};
-pub use record::Record;
+pub use record::{Record, parse_record};
 pub use refusal::{Place, Refusal};

@@ -1,7 +1,8 @@
 //! Plans: which services hold the objects, and how many copies of each.
 
-ghost use Rattle.std.specs.Prelude.{◌≡◌, IfSome, IfNone};
+ghost use Rattle.std.specs.Prelude.{◌≡◌, ◌<◌, Some, IfSome};
 ghost use Rattle.ms_record.specs.Plans.{IsPlan, plan_of};
+ghost use Rattle.ms_record.specs.PlanTests.{are_rows as are_rows_from, plan_if};
 
 use ms_base::ServiceId;
 use std::marker::Model;
@@ -20,7 +21,7 @@ pub struct Plan {
     format: u32,
     replicas: u32,
     unit: u64,
-    rows: [PlanRow; 16],
+    rows: [PlanRow; MOST_ROWS],
     count: usize,
 }
 
@@ -40,6 +41,12 @@ impl Model for Plan {
     ghost inverse_ok = { fields_back };
 }
 
+/// The greatest number of rows.
+const MOST_ROWS: usize = 16;
+
+/// The last generation.
+const LAST_GENERATION: u32 = 4_294_967_294;
+
 /// Stands at the places of a plan that have no row.
 const NO_ROW: PlanRow = PlanRow {
     service: ServiceId(0),
@@ -48,16 +55,88 @@ const NO_ROW: PlanRow = PlanRow {
 
 impl Plan {
     /// The plan of these values, where they keep the plan rules.
-    pub fn new(generation: u32, format: u32, replicas: u32, unit: u64, rows: &[PlanRow]) -> Option<Plan>
+    pub fn new(
+        generation: u32,
+        format: u32,
+        replicas: u32,
+        unit: u64,
+        rows: &[PlanRow],
+    ) -> Option<Plan>
         ensures found { IfSome result (λ p. (p ≡ plan_of generation format replicas unit rows.now) × IsPlan p) }
         ensures only { IsPlan (plan_of generation format replicas unit rows.now) → result ≡ Some (plan_of generation format replicas unit rows.now) }
-        ensures exact { result ≡ (if is_plan (plan_of generation format replicas unit rows.now) then Some (plan_of generation format replicas unit rows.now) else None) }
+        ensures exact { result ≡ plan_if (plan_of generation format replicas unit rows.now) }
+    {
+        if generation == 0 || generation > LAST_GENERATION || format != 1 || unit == 0 {
+            return None;
+        }
+        if rows.len() > MOST_ROWS
+            || replicas == 0
+            || replicas as usize > rows.len()
+            || !are_rows(rows, unit)
+        {
+            return None;
+        }
+        let mut all = [NO_ROW; MOST_ROWS];
+        all[..rows.len()].copy_from_slice(rows);
+        Some(Plan {
+            generation,
+            format,
+            replicas,
+            unit,
+            rows: all,
+            count: rows.len(),
+        })
+    }
 
-    /// The generation in which objects lie, 1 to 4,294,967,294.
+    /// The generation in which the objects lie, from 1 to 4,294,967,294.
     pub fn generation(&self) -> u32
         ensures { result ≡ self.now.generation }
+    {
+        self.generation
+    }
 
+    /// How objects are written.
+    pub fn format(&self) -> u32
+        ensures { result ≡ self.now.format }
+    {
+        self.format
+    }
+
+    /// On how many services each object is to lie, from 1 to the number of rows.
+    pub fn replicas(&self) -> u32
+        ensures { result ≡ self.now.replicas }
+    {
+        self.replicas
+    }
+
+    /// How many bytes of capacity one copy of a service stands for, at least 1.
+    pub fn unit(&self) -> u64
+        ensures { result ≡ self.now.unit }
+    {
+        self.unit
+    }
+
+    /// The services, rising, with their capacities; 1 to 16 of them.
     pub fn rows(&self) -> &[PlanRow]
         ensures rows { result.now ≡ self.now.rows }
         ensures rules { IsPlan self.now }
+    {
+        &self.rows[..self.count]
+    }
+}
+
+/// Whether the services rise, are below 16, and have 1 to 16 copies each.
+fn are_rows(rows: &[PlanRow], unit: u64) -> bool
+    requires { 0 < unit }
+    ensures { result ≡ are_rows_from unit 0 rows.now }
+{
+    let mut low = 0;
+    for row in rows {
+        let copies = row.capacity / unit;
+        if row.service.0 < low || row.service.0 >= 16 || copies < 1 || copies > 16 {
+            return false;
+        }
+        low = row.service.0 + 1;
+    }
+    true
 }

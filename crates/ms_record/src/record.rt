@@ -1,6 +1,9 @@
 //! The records of vote lists.
 
-ghost use Rattle.std.specs.Prelude.{◌≡◌};
+ghost use Rattle.std.specs.Prelude.{◌≡◌, Some, IfSome};
+ghost use Rattle.ms_record.specs.declared.record.Record.{Record};
+ghost use Rattle.ms_record.specs.Records.{IsRecord, record_text};
+ghost use Rattle.ms_record.specs.Reading.{record_at};
 ghost use Rattle.ms_record.specs.Votes.{position_of, ballot_of};
 
 use crate::ballot::Ballot;
@@ -40,4 +43,15 @@ impl Record {
             Record::Accept { ballot, .. } => *ballot,
         }
     }
+}
+
+/// The record that the text is: `docs/FORMATS.md`, records.
+pub fn parse_record(text: &[u8]) -> Option<Record>
+    // What is read is spelled so.
+    ensures found { IfSome result (λ r. IsRecord r × (text.now ≡ record_text r)) }
+    // What is spelled so is read.
+    ensures only { (r : Record) → IsRecord r → text.now ≡ record_text r → result ≡ Some r }
+    ensures exact { result ≡ record_at text.now }
+{
+    None
 }
