@@ -1,0 +1,3 @@
+mod Filling
+mod PlanRules
+mod RowsRead

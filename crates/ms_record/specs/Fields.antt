@@ -1,28 +1,42 @@
 -- Fields of bytes: what is read from the front of a text, and the bytes after it.
-use Rattle.std.specs.Prelude.{ℕ, ◌==◌, ◌&&◌, nat_lt, nat_le, List, [], ◌∷◌, length, take, drop, Option, Some, None, if◌then◌else◌}
-use Rattle.std.specs.Int.{Width, byte_len, from_be_bytes}
+use Rattle.std.specs.Prelude.{ℕ, ◌<◌, ◌&&◌, nat_lt, nat_le, List, [], ◌∷◌, length, take, drop, slice_index, Option, Some, None, if◌then◌else◌}
+use Rattle.std.specs.Int.{Width, w32, byte_len, from_be_bytes}
+use Rattle.ms_text.specs.Options.{◌>>=◌}
 use Rattle.ms_base.specs.declared.names.Name.{Name}
+use Rattle.ms_base.specs.declared.names.ClientId.{ClientId}
+
+-- a text is of bytes
+abbrev pub IsBytes : List ℕ → Type 0
+IsBytes text = (i : ℕ) → slice_index text i < 256
 
 -- a field, and the bytes after it
 abbrev pub Field : Type 0 → Type 0
 Field A = Option (A × List ℕ)
 
--- one byte of this value
-abbrev pub tag_at : ℕ → List ℕ → Option (List ℕ)
-tag_at tag [] = None
-tag_at tag (b ∷ rest) = if b == tag then Some rest else None
+abbrev pub byte_at : List ℕ → Field ℕ
+byte_at [] = None
+byte_at (b ∷ rest) = Some (b, rest)
 
 -- a number of this width, big-endian
 abbrev pub number_at : Width → List ℕ → Field ℕ
 number_at w text = if nat_lt (length text) (byte_len w) then None else Some (from_be_bytes w (take (byte_len w) text), drop (byte_len w) text)
 
--- the field, where its number is from low to high
-abbrev pub within : ℕ → ℕ → ℕ × List ℕ → Field ℕ
-within low high field = if nat_le low field.0 && nat_le field.0 high then Some field else None
+abbrev pub in_range : ℕ → ℕ → ℕ × List ℕ → Field ℕ
+in_range low high field = if nat_le low field.0 && nat_le field.0 high then Some field else None
+
+-- a number of four bytes, from low to high
+abbrev pub number_within : ℕ → ℕ → List ℕ → Field ℕ
+number_within low high text = number_at w32 text >>= in_range low high
 
 -- 32 bytes
 abbrev pub name_at : List ℕ → Field Name
 name_at text = if nat_lt (length text) 32 then None else Some (record { 0 = take 32 text }, drop 32 text)
+
+-- a client is below 16
+unfoldable pub client_at : List ℕ → Field ClientId
+client_at text = do
+  client ← number_within 0 15 text
+  Some (record { 0 = client.0 }, client.1)
 
 -- the value, where no byte is left
 abbrev pub at_end : {A : Type 0} → A × List ℕ → Option A

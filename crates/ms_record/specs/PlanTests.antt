@@ -1,7 +1,11 @@
 -- The plan rules as a test. The laws of `Plan::new` tie it to the rules.
-use Rattle.std.specs.Prelude.{ℕ, ◌+◌, ◌/◌, ◌==◌, ◌&&◌, nat_le, nat_lt, Bool, true, false, List, [], ◌∷◌, length, Option, Some, None, if◌then◌else◌}
+use Rattle.std.specs.Prelude.{◌≡◌, ℕ, ◌+◌, ◌^◌, ◌<◌, slice_get, ◌/◌, ◌==◌, ◌&&◌, nat_le, nat_lt, Bool, true, false, List, [], ◌∷◌, length, Option, Some, None, if◌then◌else◌}
 use Rattle.ms_record.specs.declared.plan.PlanRow.{PlanRow}
 use Rattle.ms_record.specs.Plans.{PlanView}
+
+-- each capacity has eight bytes
+abbrev pub AreCapacities : List PlanRow → Type 0
+AreCapacities rows = (i : ℕ) (row : PlanRow) → slice_get rows i ≡ Some row → row.capacity < 2 ^ 64
 
 abbrev pub is_row : ℕ → PlanRow → Bool
 is_row unit row = nat_lt row.service.0 16 && nat_le 1 (row.capacity / unit) && nat_le (row.capacity / unit) 16

@@ -7,6 +7,7 @@ ghost use Rattle.ms_record.specs.Entries.{IsEntry, entry_text, name_of};
 ghost use Rattle.ms_record.specs.Reading.{entry_at};
 
 use crate::plan::{Plan, PlanRow};
+use crate::reading::read_entry;
 use ms_base::{ClientId, Items, Name};
 use sha2::{Digest, Sha256};
 
@@ -43,7 +44,7 @@ pub fn parse_entry(text: &[u8]) -> Option<Entry>
     ensures only { (e : Entry) → IsEntry e → text.now ≡ entry_text e → result ≡ Some e }
     ensures exact { result ≡ entry_at text.now }
 {
-    None
+    read_entry(text)
 }
 
 /// The name of an entry: the SHA-256 (FIPS 180-4) of its bytes.

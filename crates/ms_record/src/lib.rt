@@ -3,7 +3,9 @@
 
 pub mod ballot;
 pub mod entry;
+mod fields;
 pub mod plan;
+mod reading;
 pub mod record;
 pub mod refusal;
 

@@ -1,8 +1,9 @@
 //! Plans: which services hold the objects, and how many copies of each.
 
-ghost use Rattle.std.specs.Prelude.{◌≡◌, ◌<◌, Some, IfSome};
+ghost use Rattle.std.specs.Prelude.{◌≡◌, ◌<◌, ◌^◌, Some, IfSome};
+ghost use Rattle.std.specs.Bool.{OnTrue};
 ghost use Rattle.ms_record.specs.Plans.{IsPlan, plan_of};
-ghost use Rattle.ms_record.specs.PlanTests.{are_rows as are_rows_from, plan_if};
+ghost use Rattle.ms_record.specs.PlanTests.{AreCapacities, are_rows as are_rows_from, is_plan, is_row as is_row_from, plan_if};
 
 use ms_base::ServiceId;
 use std::marker::Model;
@@ -42,13 +43,13 @@ impl Model for Plan {
 }
 
 /// The greatest number of rows.
-const MOST_ROWS: usize = 16;
+pub(crate) const MOST_ROWS: usize = 16;
 
 /// The last generation.
 const LAST_GENERATION: u32 = 4_294_967_294;
 
 /// Stands at the places of a plan that have no row.
-const NO_ROW: PlanRow = PlanRow {
+pub(crate) const NO_ROW: PlanRow = PlanRow {
     service: ServiceId(0),
     capacity: 0,
 };
@@ -66,14 +67,7 @@ impl Plan {
         ensures only { IsPlan (plan_of generation format replicas unit rows.now) → result ≡ Some (plan_of generation format replicas unit rows.now) }
         ensures exact { result ≡ plan_if (plan_of generation format replicas unit rows.now) }
     {
-        if generation == 0 || generation > LAST_GENERATION || format != 1 || unit == 0 {
-            return None;
-        }
-        if rows.len() > MOST_ROWS
-            || replicas == 0
-            || replicas as usize > rows.len()
-            || !are_rows(rows, unit)
-        {
+        if !keeps_rules(generation, format, replicas, unit, rows) {
             return None;
         }
         let mut all = [NO_ROW; MOST_ROWS];
@@ -125,18 +119,46 @@ impl Plan {
     }
 }
 
+/// Whether these values keep the plan rules.
+#[tactic(auto, unfolding(crate::specs::PlanTests::is_plan))]
+fn keeps_rules(generation: u32, format: u32, replicas: u32, unit: u64, rows: &[PlanRow]) -> bool
+    ensures test { result ≡ is_plan (plan_of generation format replicas unit rows.now) }
+    ensures rules { OnTrue result (IsPlan (plan_of generation format replicas unit rows.now)) }
+{
+    generation >= 1
+        && generation <= LAST_GENERATION
+        && format == 1
+        && unit >= 1
+        && !rows.is_empty()
+        && rows.len() <= MOST_ROWS
+        && replicas >= 1
+        && replicas as usize <= rows.len()
+        && are_rows(rows, unit)
+}
+
 /// Whether the services rise, are below 16, and have 1 to 16 copies each.
 fn are_rows(rows: &[PlanRow], unit: u64) -> bool
     requires { 0 < unit }
-    ensures { result ≡ are_rows_from unit 0 rows.now }
+    ensures test { result ≡ are_rows_from unit 0 rows.now }
+    ensures fits { OnTrue result (AreCapacities rows.now) }
 {
     let mut low = 0;
     for row in rows {
-        let copies = row.capacity / unit;
-        if row.service.0 < low || row.service.0 >= 16 || copies < 1 || copies > 16 {
+        if row.service.0 < low || !is_row(row, unit) {
             return false;
         }
         low = row.service.0 + 1;
     }
     true
+}
+
+/// Whether the service is below 16 and has 1 to 16 copies.
+fn is_row(row: &PlanRow, unit: u64) -> bool
+    requires { 0 < unit }
+    ensures test { result ≡ is_row_from unit row.now }
+    ensures service { OnTrue result (row.now.service.0 < 16) }
+    ensures fits { row.now.capacity < 2 ^ 64 }
+{
+    let copies = row.capacity / unit;
+    row.service.0 < 16 && copies >= 1 && copies <= 16
 }

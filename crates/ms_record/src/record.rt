@@ -8,6 +8,7 @@ ghost use Rattle.ms_record.specs.Votes.{position_of, ballot_of};
 
 use crate::ballot::Ballot;
 use crate::entry::Entry;
+use crate::reading::read_record;
 
 /// One record of a vote list: what a bidder asks a service, as an acceptor, to promise or to accept.
 ///
@@ -53,5 +54,5 @@ pub fn parse_record(text: &[u8]) -> Option<Record>
     ensures only { (r : Record) → IsRecord r → text.now ≡ record_text r → result ≡ Some r }
     ensures exact { result ≡ record_at text.now }
 {
-    None
+    read_record(text)
 }
