@@ -1,3 +1,4 @@
 mod Filling
 mod PlanRules
+mod RowsFilled
 mod RowsRead

@@ -33,7 +33,9 @@ fn read_rows<'a>(rows: &mut [PlanRow], text: &'a [u8]) -> Option<&'a [u8]>
 {
     let mut rest = text;
     for row in rows.iter_mut() {
-        let (read, after) = read_row(rest)?;
+        let Some((read, after)) = read_row(rest) else {
+            return None;
+        };
         *row = read;
         rest = after;
     }
