@@ -1,10 +1,12 @@
 //! Entries: what is agreed on at a position.
 
-ghost use Rattle.std.specs.Prelude.{◌≡◌, ◌↔◌, Some, IsTrue, IfSome};
+ghost use Rattle.std.specs.Prelude.{◌≡◌, ◌↔◌, ◌++◌, ℕ, List, Some, IsTrue, IfSome};
 ghost use Rattle.ms_record.specs.declared.entry.Entry.{Entry};
-ghost use Rattle.ms_record.specs.Chains.{LinksOn};
+ghost use Rattle.ms_record.specs.Chains.{GoesOn, LinksOn};
 ghost use Rattle.ms_record.specs.Entries.{IsEntry, entry_text, name_of};
+ghost use Rattle.ms_record.specs.Plans.{plan_text};
 ghost use Rattle.ms_record.specs.Reading.{entry_at};
+ghost use Rattle.sha2.specs.Hashers.{Holds256};
 
 use crate::plan::{Plan, PlanRow};
 use crate::reading::read_entry;
@@ -51,7 +53,36 @@ pub fn parse_entry(text: &[u8]) -> Option<Entry>
 pub fn entry_name(entry: &Entry) -> Name
     ensures { result.0 ≡ name_of entry.now }
 {
-    Name([0; 32])
+    let tag = match entry.plan {
+        None => b'U',
+        Some(_) => b'L',
+    };
+    let mut hasher = Sha256::new();
+    hasher.update(&[tag]);
+    hasher.update(&entry.before.0);
+    hasher.update(&entry.client.0.to_be_bytes());
+    hasher.update(&entry.number.to_be_bytes());
+    hasher.update(&entry.version.0);
+    if let Some(plan) = &entry.plan {
+        feed_plan(&mut hasher, plan);
+    }
+    Name(hasher.finalize())
+}
+
+/// Feeds the bytes of a plan.
+fn feed_plan(hasher: &mut Sha256, plan: &Plan)
+    ensures { (m : List ℕ) → Holds256 hasher.old m → Holds256 hasher.new (m ++ plan_text plan.now) }
+{
+    let rows = plan.rows();
+    hasher.update(&plan.generation().to_be_bytes());
+    hasher.update(&plan.format().to_be_bytes());
+    hasher.update(&plan.replicas().to_be_bytes());
+    hasher.update(&plan.unit().to_be_bytes());
+    hasher.update(&(rows.len() as u32).to_be_bytes());
+    for row in rows {
+        hasher.update(&row.service.0.to_be_bytes());
+        hasher.update(&row.capacity.to_be_bytes());
+    }
 }
 
 /// Whether the entry names the member before, and its plan, where it has one, goes on from the generation in force
@@ -59,5 +90,20 @@ pub fn entry_name(entry: &Entry) -> Name
 pub fn links_on(before: &Name, generation: u32, services: u32, entry: &Entry) -> bool
     ensures { IsTrue result ↔ LinksOn before.now.0 generation services entry.now }
 {
-    false
+    if entry.before != *before {
+        return false;
+    }
+    match &entry.plan {
+        None => true,
+        Some(plan) => goes_on(plan, generation, services),
+    }
+}
+
+/// Whether a plan goes on from this generation, with services below `services` alone.
+fn goes_on(plan: &Plan, generation: u32, services: u32) -> bool
+    ensures { IsTrue result ↔ GoesOn generation services plan.now }
+{
+    plan.format() == 1
+        && generation <= plan.generation()
+        && plan.rows().iter().all(|row| row.service.0 < services)
 }
