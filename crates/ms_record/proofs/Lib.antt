@@ -1,4 +1,5 @@
 mod EntryLaws
+mod Feeding
 mod FieldLaws
 mod Filling
 mod PlanLaws

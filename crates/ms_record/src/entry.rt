@@ -1,10 +1,12 @@
 //! Entries: what is agreed on at a position.
 
 ghost use Rattle.std.specs.Prelude.{◌≡◌, ◌↔◌, ◌++◌, ℕ, List, Some, IsTrue, IfSome};
+ghost use Rattle.std.specs.Int.{w32, w64, to_be_bytes};
+ghost use Rattle.std.specs.List.{flat_map};
 ghost use Rattle.ms_record.specs.declared.entry.Entry.{Entry};
 ghost use Rattle.ms_record.specs.Chains.{GoesOn, LinksOn};
 ghost use Rattle.ms_record.specs.Entries.{IsEntry, entry_text, name_of};
-ghost use Rattle.ms_record.specs.Plans.{plan_text};
+ghost use Rattle.ms_record.specs.Plans.{plan_text, row_text};
 ghost use Rattle.ms_record.specs.Reading.{entry_at};
 ghost use Rattle.sha2.specs.Hashers.{Holds256};
 
@@ -60,8 +62,8 @@ pub fn entry_name(entry: &Entry) -> Name
     let mut hasher = Sha256::new();
     hasher.update(&[tag]);
     hasher.update(&entry.before.0);
-    hasher.update(&entry.client.0.to_be_bytes());
-    hasher.update(&entry.number.to_be_bytes());
+    feed_u32(&mut hasher, entry.client.0);
+    feed_u32(&mut hasher, entry.number);
     hasher.update(&entry.version.0);
     if let Some(plan) = &entry.plan {
         feed_plan(&mut hasher, plan);
@@ -74,15 +76,34 @@ fn feed_plan(hasher: &mut Sha256, plan: &Plan)
     ensures { (m : List ℕ) → Holds256 hasher.old m → Holds256 hasher.new (m ++ plan_text plan.now) }
 {
     let rows = plan.rows();
-    hasher.update(&plan.generation().to_be_bytes());
-    hasher.update(&plan.format().to_be_bytes());
-    hasher.update(&plan.replicas().to_be_bytes());
-    hasher.update(&plan.unit().to_be_bytes());
-    hasher.update(&(rows.len() as u32).to_be_bytes());
+    feed_u32(hasher, plan.generation());
+    feed_u32(hasher, plan.format());
+    feed_u32(hasher, plan.replicas());
+    feed_u64(hasher, plan.unit());
+    feed_u32(hasher, rows.len() as u32);
+    feed_rows(hasher, rows);
+}
+
+/// Feeds the bytes of rows.
+fn feed_rows(hasher: &mut Sha256, rows: &[PlanRow])
+    ensures { (m : List ℕ) → Holds256 hasher.old m → Holds256 hasher.new (m ++ flat_map row_text rows.now) }
+{
     for row in rows {
-        hasher.update(&row.service.0.to_be_bytes());
-        hasher.update(&row.capacity.to_be_bytes());
+        feed_u32(hasher, row.service.0);
+        feed_u64(hasher, row.capacity);
     }
+}
+
+fn feed_u32(hasher: &mut Sha256, number: u32)
+    ensures { (m : List ℕ) → Holds256 hasher.old m → Holds256 hasher.new (m ++ to_be_bytes w32 number) }
+{
+    hasher.update(&number.to_be_bytes());
+}
+
+fn feed_u64(hasher: &mut Sha256, number: u64)
+    ensures { (m : List ℕ) → Holds256 hasher.old m → Holds256 hasher.new (m ++ to_be_bytes w64 number) }
+{
+    hasher.update(&number.to_be_bytes());
 }
 
 /// Whether the entry names the member before, and its plan, where it has one, goes on from the generation in force
