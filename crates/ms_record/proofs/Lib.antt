@@ -7,3 +7,4 @@ mod PlanRules
 mod RecordLaws
 mod RowsFilled
 mod RowsRead
+mod Sameness
