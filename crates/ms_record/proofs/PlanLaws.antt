@@ -70,8 +70,14 @@ rows_again (r ∷ rs) rest fits =
 
 -- ---- plans
 
+abbrev some_plan : PlanView → List ℕ → Field PlanView
+some_plan plan rest = Some (plan, rest)
+
 abbrev with_plan : ℕ → ℕ → ℕ → ℕ → List PlanRow × List ℕ → Field PlanView
 with_plan generation format replicas unit rows = plan_if (plan_of generation format replicas unit rows.0) >>= λ plan. Some (plan, rows.1)
+
+kept_is : (p q : PlanView) (rest : List ℕ) (x : PlanView × List ℕ) → p ≡ q → some_plan q rest ≡ Some x → (p, rest) ≡ x
+kept_is p q rest x same e = ap (λ (r : PlanView). (r, rest)) same ∙ some_is (q, rest) x e
 
 pub plan_takes : (text : List ℕ) (x : PlanView × List ℕ) → IsBytes text → plan_at text ≡ Some x → Takes text (plan_text x.0) x.1 × IsPlan x.0
 unfolding plan_at
@@ -97,7 +103,7 @@ plan_takes text x fits e =
     let whole = Takes-then text (to_be_bytes w32 g.0.0 ++ to_be_bytes w32 f.0.0 ++ to_be_bytes w32 r.0.0 ++ to_be_bytes w64 u.0.0 ++ to_be_bytes w32 (length rows.0.0)) n.0.1 (flat_map row_text rows.0.0) rows.0.1 counted t5.0 in
     let kept = plan_if_given (plan_of g.0.0 f.0.0 r.0.0 u.0.0 rows.0.0) plan.0 t3.1 (λ i row h. (t5.2 i row h).capacity) plan.1 in
     let made : PlanView × List ℕ = (plan_of g.0.0 f.0.0 r.0.0 u.0.0 rows.0.0, rows.0.1) in
-    let is : made ≡ x = ap (λ (p : PlanView). (p, rows.0.1)) kept.0 ∙ some_is (plan.0, rows.0.1) x plan.2 in
+    let is : made ≡ x = kept_is made.0 plan.0 rows.0.1 x kept.0 plan.2 in
     subst (λ (y : PlanView × List ℕ). Takes text (plan_text y.0) y.1 × IsPlan y.0) is (whole, kept.1)
 
 pub plan_again : (plan : PlanView) (rest : List ℕ) → IsPlan plan → plan_at (plan_text plan ++ rest) ≡ Some (plan, rest)

@@ -6,6 +6,7 @@ ghost use Rattle.std.specs.List.{flat_map};
 ghost use Rattle.ms_record.specs.declared.entry.Entry.{Entry};
 ghost use Rattle.ms_record.specs.Chains.{GoesOn, LinksOn};
 ghost use Rattle.ms_record.specs.Entries.{IsEntry, entry_text, name_of};
+ghost use Rattle.ms_record.specs.Fields.{IsBytes};
 ghost use Rattle.ms_record.specs.Plans.{plan_text, row_text};
 ghost use Rattle.ms_record.specs.Reading.{entry_at};
 ghost use Rattle.sha2.specs.Hashers.{Holds256};
@@ -128,3 +129,9 @@ fn goes_on(plan: &Plan, generation: u32, services: u32) -> bool
         && generation <= plan.generation()
         && plan.rows().iter().all(|row| row.service.0 < services)
 }
+
+/// An entry has one spelling, and that is read.
+pub fn one_spelling()
+    ensures read { (text : List ℕ) (e : Entry) → IsBytes text → entry_at text ≡ Some e → IsEntry e × (text ≡ entry_text e) }
+    ensures again { (e : Entry) → IsEntry e → entry_at (entry_text e) ≡ Some e }
+{}

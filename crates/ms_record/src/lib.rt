@@ -14,3 +14,6 @@ pub use entry::{Entries, Entry, entry_name, links_on, parse_entry};
 pub use plan::{Plan, PlanRow};
 pub use record::{Record, parse_record};
 pub use refusal::{Place, Refusal};
+
+#[cfg(test)]
+mod tests;

@@ -1,7 +1,8 @@
 //! The records of vote lists.
 
-ghost use Rattle.std.specs.Prelude.{◌≡◌, Some, IfSome};
+ghost use Rattle.std.specs.Prelude.{◌≡◌, ℕ, List, Some, IfSome};
 ghost use Rattle.ms_record.specs.declared.record.Record.{Record};
+ghost use Rattle.ms_record.specs.Fields.{IsBytes};
 ghost use Rattle.ms_record.specs.Records.{IsRecord, record_text};
 ghost use Rattle.ms_record.specs.Reading.{record_at};
 ghost use Rattle.ms_record.specs.Votes.{position_of, ballot_of};
@@ -56,3 +57,9 @@ pub fn parse_record(text: &[u8]) -> Option<Record>
 {
     read_record(text)
 }
+
+/// A record has one spelling, and that is read.
+pub fn one_spelling()
+    ensures read { (text : List ℕ) (r : Record) → IsBytes text → record_at text ≡ Some r → IsRecord r × (text ≡ record_text r) }
+    ensures again { (r : Record) → IsRecord r → record_at (record_text r) ≡ Some r }
+{}
