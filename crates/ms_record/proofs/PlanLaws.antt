@@ -74,37 +74,65 @@ abbrev some_plan : PlanView → List ℕ → Field PlanView
 some_plan plan rest = Some (plan, rest)
 
 abbrev with_plan : ℕ → ℕ → ℕ → ℕ → List PlanRow × List ℕ → Field PlanView
-with_plan generation format replicas unit rows = plan_if (plan_of generation format replicas unit rows.0) >>= λ plan. Some (plan, rows.1)
+with_plan generation format replicas unit rows = plan_if (plan_of generation format replicas unit rows.0) >>= λ plan. some_plan plan rows.1
 
-kept_is : (p q : PlanView) (rest : List ℕ) (x : PlanView × List ℕ) → p ≡ q → some_plan q rest ≡ Some x → (p, rest) ≡ x
-kept_is p q rest x same e = ap (λ (r : PlanView). (r, rest)) same ∙ some_is (q, rest) x e
+abbrev with_rows : ℕ → ℕ → ℕ → ℕ → ℕ × List ℕ → Field PlanView
+with_rows generation format replicas unit count = rows_at count.0 count.1 >>= with_plan generation format replicas unit
+
+-- a plan with these values, whose rows were taken from the front
+record TakesRows (generation format replicas unit : ℕ) (text : List ℕ) (x : PlanView × List ℕ) : Type 0 where
+  rows : List PlanRow
+  is : plan_of generation format replicas unit rows ≡ x.0
+  takes : Takes text (to_be_bytes w32 (length rows) ++ flat_map row_text rows) x.1
+  kept : IsPlan x.0
+
+counted_takes : (text after : List ℕ) (n : ℕ) (x : List PlanRow × List ℕ) → Takes text (to_be_bytes w32 n) after → Takes after (flat_map row_text x.0) x.1 → length x.0 ≡ n
+    → Takes text (to_be_bytes w32 (length x.0) ++ flat_map row_text x.0) x.1
+counted_takes text after n x count rows len =
+    let counted : Takes text (to_be_bytes w32 (length x.0)) after = subst (λ (k : ℕ). Takes text (to_be_bytes w32 k) after) (sym len) count in
+    Takes-then text (to_be_bytes w32 (length x.0)) after (flat_map row_text x.0) x.1 counted rows
+
+with_plan_takes : (generation format replicas unit : ℕ) (text : List ℕ) (rows : List PlanRow × List ℕ) (x : PlanView × List ℕ) → unit < 2 ^ 64 → AllFit rows.0
+    → Takes text (to_be_bytes w32 (length rows.0) ++ flat_map row_text rows.0) rows.1 → with_plan generation format replicas unit rows ≡ Some x → TakesRows generation format replicas unit text x
+with_plan_takes generation format replicas unit text rows x fits rows_fit takes e =
+    let made : PlanView = plan_of generation format replicas unit rows.0 in
+    let plan = bind_some (plan_if made) (λ p. some_plan p rows.1) x e in
+    let kept = plan_if_given made plan.0 fits (λ i row h. (rows_fit i row h).capacity) plan.1 in
+    let is : (plan.0, rows.1) ≡ x = some_is (plan.0, rows.1) x plan.2 in
+    let same : made ≡ x.0 = kept.0 ∙ ap (λ (y : PlanView × List ℕ). y.0) is in
+    record { rows = rows.0; is = same; takes = subst (λ (t : List ℕ). Takes text (to_be_bytes w32 (length rows.0) ++ flat_map row_text rows.0) t) (ap (λ (y : PlanView × List ℕ). y.1) is) takes; kept = subst IsPlan same kept.1 }
+
+with_rows_takes : (generation format replicas unit : ℕ) (text : List ℕ) (x : PlanView × List ℕ) → IsBytes text → unit < 2 ^ 64
+    → (number_within 1 16 text >>= with_rows generation format replicas unit) ≡ Some x → TakesRows generation format replicas unit text x
+with_rows_takes generation format replicas unit text x fits unit_fits e =
+    let n = bind_some (number_within 1 16 text) (with_rows generation format replicas unit) x e in
+    let count = within_takes 1 16 text n.0 fits n.1 in
+    let r = bind_some (rows_at n.0.0 n.0.1) (with_plan generation format replicas unit) x n.2 in
+    let rows = rows_take n.0.0 n.0.1 r.0 count.0.bytes r.1 in
+    with_plan_takes generation format replicas unit text r.0 x unit_fits rows.2 (counted_takes text n.0.1 n.0.0 r.0 count.0 rows.0 rows.1) r.2
+
+whole_takes : (generation format replicas unit : ℕ) (text after : List ℕ) (x : PlanView × List ℕ)
+    → Takes text (to_be_bytes w32 generation ++ to_be_bytes w32 format ++ to_be_bytes w32 replicas ++ to_be_bytes w64 unit) after → TakesRows generation format replicas unit after x
+    → Takes text (plan_text x.0) x.1 × IsPlan x.0
+whole_takes generation format replicas unit text after x front h =
+    let whole = Takes-then text (to_be_bytes w32 generation ++ to_be_bytes w32 format ++ to_be_bytes w32 replicas ++ to_be_bytes w64 unit) after (to_be_bytes w32 (length h.rows) ++ flat_map row_text h.rows) x.1 front h.takes in
+    (subst (λ (p : PlanView). Takes text (plan_text p) x.1) h.is whole, h.kept)
 
 pub plan_takes : (text : List ℕ) (x : PlanView × List ℕ) → IsBytes text → plan_at text ≡ Some x → Takes text (plan_text x.0) x.1 × IsPlan x.0
 unfolding plan_at
 plan_takes text x fits e =
-    let g = bind_some (number_at w32 text) (λ g. number_at w32 g.1 >>= λ f. number_at w32 f.1 >>= λ r. number_at w64 r.1 >>= λ u. number_within 1 16 u.1 >>= λ n. rows_at n.0 n.1 >>= with_plan g.0 f.0 r.0 u.0) x e in
-    let f = bind_some (number_at w32 g.0.1) (λ f. number_at w32 f.1 >>= λ r. number_at w64 r.1 >>= λ u. number_within 1 16 u.1 >>= λ n. rows_at n.0 n.1 >>= with_plan g.0.0 f.0 r.0 u.0) x g.2 in
-    let r = bind_some (number_at w32 f.0.1) (λ r. number_at w64 r.1 >>= λ u. number_within 1 16 u.1 >>= λ n. rows_at n.0 n.1 >>= with_plan g.0.0 f.0.0 r.0 u.0) x f.2 in
-    let u = bind_some (number_at w64 r.0.1) (λ u. number_within 1 16 u.1 >>= λ n. rows_at n.0 n.1 >>= with_plan g.0.0 f.0.0 r.0.0 u.0) x r.2 in
-    let n = bind_some (number_within 1 16 u.0.1) (λ n. rows_at n.0 n.1 >>= with_plan g.0.0 f.0.0 r.0.0 u.0.0) x u.2 in
-    let rows = bind_some (rows_at n.0.0 n.0.1) (with_plan g.0.0 f.0.0 r.0.0 u.0.0) x n.2 in
-    let plan = bind_some (plan_if (plan_of g.0.0 f.0.0 r.0.0 u.0.0 rows.0.0)) (λ plan. Some (plan, rows.0.1)) x rows.2 in
+    let g = bind_some (number_at w32 text) (λ g. number_at w32 g.1 >>= λ f. number_at w32 f.1 >>= λ r. number_at w64 r.1 >>= λ u. number_within 1 16 u.1 >>= with_rows g.0 f.0 r.0 u.0) x e in
+    let f = bind_some (number_at w32 g.0.1) (λ f. number_at w32 f.1 >>= λ r. number_at w64 r.1 >>= λ u. number_within 1 16 u.1 >>= with_rows g.0.0 f.0 r.0 u.0) x g.2 in
+    let r = bind_some (number_at w32 f.0.1) (λ r. number_at w64 r.1 >>= λ u. number_within 1 16 u.1 >>= with_rows g.0.0 f.0.0 r.0 u.0) x f.2 in
+    let u = bind_some (number_at w64 r.0.1) (λ u. number_within 1 16 u.1 >>= with_rows g.0.0 f.0.0 r.0.0 u.0) x r.2 in
     let t0 = number_takes w32 (2 ^ 32) wide32 text g.0 fits g.1 in
     let t1 = number_takes w32 (2 ^ 32) wide32 g.0.1 f.0 t0.0.bytes f.1 in
     let t2 = number_takes w32 (2 ^ 32) wide32 f.0.1 r.0 t1.0.bytes r.1 in
     let t3 = number_takes w64 (2 ^ 64) wide64 r.0.1 u.0 t2.0.bytes u.1 in
-    let t4 = within_takes 1 16 u.0.1 n.0 t3.0.bytes n.1 in
-    let t5 = rows_take n.0.0 n.0.1 rows.0 t4.0.bytes rows.1 in
     let e1 = Takes-then text (to_be_bytes w32 g.0.0) g.0.1 (to_be_bytes w32 f.0.0) f.0.1 t0.0 t1.0 in
     let e2 = Takes-then text (to_be_bytes w32 g.0.0 ++ to_be_bytes w32 f.0.0) f.0.1 (to_be_bytes w32 r.0.0) r.0.1 e1 t2.0 in
     let e3 = Takes-then text (to_be_bytes w32 g.0.0 ++ to_be_bytes w32 f.0.0 ++ to_be_bytes w32 r.0.0) r.0.1 (to_be_bytes w64 u.0.0) u.0.1 e2 t3.0 in
-    let e4 = Takes-then text (to_be_bytes w32 g.0.0 ++ to_be_bytes w32 f.0.0 ++ to_be_bytes w32 r.0.0 ++ to_be_bytes w64 u.0.0) u.0.1 (to_be_bytes w32 n.0.0) n.0.1 e3 t4.0 in
-    let counted = subst (λ (k : ℕ). Takes text (to_be_bytes w32 g.0.0 ++ to_be_bytes w32 f.0.0 ++ to_be_bytes w32 r.0.0 ++ to_be_bytes w64 u.0.0 ++ to_be_bytes w32 k) n.0.1) (sym t5.1) e4 in
-    let whole = Takes-then text (to_be_bytes w32 g.0.0 ++ to_be_bytes w32 f.0.0 ++ to_be_bytes w32 r.0.0 ++ to_be_bytes w64 u.0.0 ++ to_be_bytes w32 (length rows.0.0)) n.0.1 (flat_map row_text rows.0.0) rows.0.1 counted t5.0 in
-    let kept = plan_if_given (plan_of g.0.0 f.0.0 r.0.0 u.0.0 rows.0.0) plan.0 t3.1 (λ i row h. (t5.2 i row h).capacity) plan.1 in
-    let made : PlanView × List ℕ = (plan_of g.0.0 f.0.0 r.0.0 u.0.0 rows.0.0, rows.0.1) in
-    let is : made ≡ x = kept_is made.0 plan.0 rows.0.1 x kept.0 plan.2 in
-    subst (λ (y : PlanView × List ℕ). Takes text (plan_text y.0) y.1 × IsPlan y.0) is (whole, kept.1)
+    whole_takes g.0.0 f.0.0 r.0.0 u.0.0 text u.0.1 x e3 (with_rows_takes g.0.0 f.0.0 r.0.0 u.0.0 u.0.1 x t3.0.bytes t3.1 u.2)
 
 pub plan_again : (plan : PlanView) (rest : List ℕ) → IsPlan plan → plan_at (plan_text plan ++ rest) ≡ Some (plan, rest)
 unfolding plan_at
