@@ -18,3 +18,6 @@ pub use names::{ClientId, Name, Quantity, ServiceId};
 pub use outside::{Failed, Inputs, MOST_INPUT, OutsideError, ReadError, Sink, Source};
 pub use standard::{StdSink, StdSource};
 pub use streams::{read_all, write_all};
+
+#[cfg(test)]
+mod tests;

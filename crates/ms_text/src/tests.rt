@@ -71,7 +71,7 @@ fn words_are_printed(rt: HostRuntime) -> Result<(), Fail> {
     assert!(rt; push_text(&mut out, b"a ").is_ok());
     assert!(rt; push_number(&mut out, 10).is_ok());
     assert!(rt; push_name(&mut out, &[171; 32]).is_ok());
-    assert_eq!(rt; &out[..6], b"a 10ab".as_slice());
+    assert!(rt; out.starts_with(b"a 10abab"));
     assert_eq!(rt; out.len(), 68);
     assert!(rt; split_at_space(b"a  b").is_some());
     assert!(rt; split_at_space(b"ab").is_none());
