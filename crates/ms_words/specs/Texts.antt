@@ -1,0 +1,96 @@
+-- What is printed of a report, and its status: `docs/FORMATS.md`, reports.
+use Rattle.std.specs.Prelude.{ℕ, ◌+◌, List, [], ◌∷◌, ◌++◌, codes, length, Option, Some, None}
+use Rattle.std.specs.Fmt.{decimal}
+use Rattle.hex.specs.Hex.{encode_lower}
+use Rattle.ms_base.specs.declared.names.Quantity.{Quantity}
+use Rattle.ms_base.specs.declared.names.Quantity.TheVariants as quantities
+use Rattle.ms_record.specs.declared.entry.Entry.{Entry}
+use Rattle.ms_record.specs.declared.refusal.Place.{Place}
+use Rattle.ms_record.specs.declared.refusal.Place.TheVariants as places
+use Rattle.ms_record.specs.declared.refusal.Refusal.{Refusal}
+use Rattle.ms_record.specs.declared.refusal.Refusal.TheVariants.{Usage, BadInput, OutsideFault, NoMemory, Split, Limit}
+use Rattle.ms_record.specs.Entries.{name_of}
+use Rattle.ms_record.specs.Plans.{PlanView}
+use Rattle.ms_words.specs.declared.report.Report.{Report}
+use Rattle.ms_words.specs.declared.report.Report.TheVariants.{Audit, Refused}
+
+abbrev pub refusal_status : Refusal → ℕ
+refusal_status Usage = 1
+refusal_status (BadInput place line) = 2
+refusal_status (OutsideFault place) = 3
+refusal_status NoMemory = 8
+refusal_status (Split position first second) = 10
+refusal_status (Limit what value) = 11
+
+abbrev pub status_of : Report → ℕ
+status_of (Refused refusal) = refusal_status refusal
+status_of (Audit genesis entries) = 0
+
+-- where a fault is
+abbrev pub place_word : Place → List ℕ
+place_word places.Config = codes "config"
+place_word places.Input = codes "input"
+place_word places.Desk = codes "desk"
+place_word places.Work = codes "work"
+place_word places.Keep = codes "keep"
+
+-- a wrong line is one of the configuration or of an input
+abbrev pub text_word : Place → List ℕ
+text_word places.Config = codes "config"
+text_word _ = codes "input"
+
+abbrev pub quantity_word : Quantity → List ℕ
+quantity_word quantities.Service = codes "service"
+quantity_word quantities.Clients = codes "clients"
+quantity_word quantities.Path = codes "path"
+quantity_word quantities.Part = codes "part"
+quantity_word quantities.Levels = codes "levels"
+quantity_word quantities.File = codes "file"
+quantity_word quantities.Files = codes "files"
+quantity_word quantities.Total = codes "total"
+quantity_word quantities.Object = codes "object"
+quantity_word quantities.Position = codes "position"
+quantity_word quantities.Round = codes "round"
+quantity_word quantities.Number = codes "number"
+quantity_word quantities.Generation = codes "generation"
+quantity_word quantities.Input = codes "input"
+quantity_word quantities.Events = codes "events"
+quantity_word quantities.Asked = codes "asked"
+
+unfoldable pub kind_word : Option PlanView → List ℕ
+kind_word None = codes " push "
+kind_word (Some plan) = codes " plan "
+
+-- the generation of a plan
+unfoldable pub generation_word : Option PlanView → List ℕ
+generation_word None = []
+generation_word (Some plan) = codes " " ++ decimal plan.generation
+
+-- the client, its number and the version
+unfoldable pub author_text : Entry → List ℕ
+author_text e = decimal e.client.0 ++ codes " " ++ decimal e.number ++ codes " " ++ encode_lower e.version.0
+
+-- `K NAME push CLIENT NUMBER VERSION` or `K NAME plan CLIENT NUMBER VERSION GENERATION`
+unfoldable pub member_line : ℕ → Entry → List ℕ
+member_line k e = decimal k ++ codes " " ++ encode_lower (name_of e) ++ kind_word e.plan ++ author_text e ++ generation_word e.plan ++ codes "\n"
+
+abbrev pub member_lines : ℕ → List Entry → List ℕ
+member_lines k [] = []
+member_lines k (e ∷ es) = member_line k e ++ member_lines (k + 1) es
+
+-- the genesis, the members by position, and the last position
+unfoldable pub audit_text : List ℕ → List Entry → List ℕ
+audit_text genesis entries =
+    codes "0 " ++ encode_lower genesis ++ codes "\n" ++ member_lines 1 entries ++ codes "end " ++ decimal (length entries) ++ codes "\n"
+
+unfoldable pub refusal_text : Refusal → List ℕ
+refusal_text Usage = codes "usage\n"
+refusal_text (BadInput place line) = codes "bad " ++ text_word place ++ codes " " ++ decimal line ++ codes "\n"
+refusal_text (OutsideFault place) = codes "fault " ++ place_word place ++ codes "\n"
+refusal_text NoMemory = codes "no memory\n"
+refusal_text (Split position first second) = codes "split " ++ decimal position ++ codes " " ++ encode_lower first.0 ++ codes " " ++ encode_lower second.0 ++ codes "\n"
+refusal_text (Limit what value) = codes "limit " ++ quantity_word what ++ codes " " ++ decimal value ++ codes "\n"
+
+abbrev pub text_of : Report → List ℕ
+text_of (Audit genesis entries) = audit_text genesis.0 entries
+text_of (Refused refusal) = refusal_text refusal

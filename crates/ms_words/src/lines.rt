@@ -1,0 +1,198 @@
+//! The lines of reports, each by a function of its own.
+
+ghost use Rattle.std.specs.Prelude.{◌≡◌, ◌++◌, OnOk};
+ghost use Rattle.hex.specs.Hex.{encode_lower};
+ghost use Rattle.ms_record.specs.Entries.{name_of};
+ghost use Rattle.ms_words.specs.Texts.{text_word, place_word, quantity_word, kind_word, generation_word, author_text, member_line, member_lines, audit_text, refusal_text};
+
+use ms_base::{Name, NoMemory, Quantity};
+use ms_record::{Entry, Place, Refusal, entry_name};
+use ms_text::{push_name, push_number, push_text};
+
+fn push_place(out: &mut Vec<u8>, place: Place) -> Result<(), NoMemory>
+    ensures { OnOk result (out.new.items ≡ out.old.items ++ place_word place) }
+{
+    match place {
+        Place::Config => push_text(out, b"config"),
+        Place::Input => push_text(out, b"input"),
+        Place::Desk => push_text(out, b"desk"),
+        Place::Work => push_text(out, b"work"),
+        Place::Keep => push_text(out, b"keep"),
+    }
+}
+
+fn push_text_place(out: &mut Vec<u8>, place: Place) -> Result<(), NoMemory>
+    ensures { OnOk result (out.new.items ≡ out.old.items ++ text_word place) }
+{
+    match place {
+        Place::Config => push_text(out, b"config"),
+        _ => push_text(out, b"input"),
+    }
+}
+
+fn push_quantity(out: &mut Vec<u8>, what: Quantity) -> Result<(), NoMemory>
+    ensures { OnOk result (out.new.items ≡ out.old.items ++ quantity_word what) }
+{
+    match what {
+        Quantity::Service => push_text(out, b"service"),
+        Quantity::Clients => push_text(out, b"clients"),
+        Quantity::Path => push_text(out, b"path"),
+        Quantity::Part => push_text(out, b"part"),
+        Quantity::Levels => push_text(out, b"levels"),
+        Quantity::File => push_text(out, b"file"),
+        Quantity::Files => push_text(out, b"files"),
+        Quantity::Total => push_text(out, b"total"),
+        Quantity::Object => push_text(out, b"object"),
+        Quantity::Position => push_text(out, b"position"),
+        Quantity::Round => push_text(out, b"round"),
+        Quantity::Number => push_text(out, b"number"),
+        Quantity::Generation => push_text(out, b"generation"),
+        Quantity::Input => push_text(out, b"input"),
+        Quantity::Events => push_text(out, b"events"),
+        Quantity::Asked => push_text(out, b"asked"),
+    }
+}
+
+#[tactic(auto, unfolding(crate::specs::Texts::kind_word))]
+fn push_kind(out: &mut Vec<u8>, entry: &Entry) -> Result<(), NoMemory>
+    ensures { OnOk result (out.new.items ≡ out.old.items ++ kind_word entry.now.plan) }
+{
+    match &entry.plan {
+        None => push_text(out, b" push "),
+        Some(_) => push_text(out, b" plan "),
+    }
+}
+
+#[tactic(auto, unfolding(crate::specs::Texts::generation_word))]
+fn push_generation(out: &mut Vec<u8>, entry: &Entry) -> Result<(), NoMemory>
+    ensures { OnOk result (out.new.items ≡ out.old.items ++ generation_word entry.now.plan) }
+{
+    match &entry.plan {
+        None => push_text(out, b""),
+        Some(plan) => {
+            push_text(out, b" ")?;
+            push_number(out, u64::from(plan.generation()))
+        }
+    }
+}
+
+fn push_entry_name(out: &mut Vec<u8>, entry: &Entry) -> Result<(), NoMemory>
+    ensures { OnOk result (out.new.items ≡ out.old.items ++ encode_lower (name_of entry.now)) }
+{
+    let name = entry_name(entry);
+    push_name(out, &name.0)
+}
+
+#[tactic(auto, unfolding(crate::specs::Texts::author_text))]
+fn push_author(out: &mut Vec<u8>, entry: &Entry) -> Result<(), NoMemory>
+    ensures { OnOk result (out.new.items ≡ out.old.items ++ author_text entry.now) }
+{
+    push_number(out, u64::from(entry.client.0))?;
+    push_text(out, b" ")?;
+    push_number(out, u64::from(entry.number))?;
+    push_text(out, b" ")?;
+    push_name(out, &entry.version.0)
+}
+
+#[tactic(auto, unfolding(crate::specs::Texts::member_line))]
+fn push_member(out: &mut Vec<u8>, position: u64, entry: &Entry) -> Result<(), NoMemory>
+    ensures { OnOk result (out.new.items ≡ out.old.items ++ member_line position entry.now) }
+{
+    push_number(out, position)?;
+    push_text(out, b" ")?;
+    push_entry_name(out, entry)?;
+    push_kind(out, entry)?;
+    push_author(out, entry)?;
+    push_generation(out, entry)?;
+    push_text(out, b"\n")
+}
+
+fn push_members(out: &mut Vec<u8>, entries: &[Entry]) -> Result<(), NoMemory>
+    ensures { OnOk result (out.new.items ≡ out.old.items ++ member_lines 1 entries.now) }
+{
+    for i in 0..entries.len() {
+        push_member(out, i as u64 + 1, &entries[i])?;
+    }
+    Ok(())
+}
+
+/// The lines of a chain.
+#[tactic(auto, unfolding(crate::specs::Texts::audit_text))]
+pub(crate) fn push_audit(
+    out: &mut Vec<u8>,
+    genesis: &Name,
+    entries: &[Entry],
+) -> Result<(), NoMemory>
+    ensures { OnOk result (out.new.items ≡ out.old.items ++ audit_text genesis.now.0 entries.now) }
+{
+    push_text(out, b"0 ")?;
+    push_name(out, &genesis.0)?;
+    push_text(out, b"\n")?;
+    push_members(out, entries)?;
+    push_text(out, b"end ")?;
+    push_number(out, entries.len() as u64)?;
+    push_text(out, b"\n")
+}
+
+#[tactic(auto, unfolding(crate::specs::Texts::refusal_text))]
+fn push_split(out: &mut Vec<u8>, position: u32, first: &Name, second: &Name) -> Result<(), NoMemory>
+    ensures { OnOk result (out.new.items ≡ out.old.items ++ refusal_text (Refusal.Split position first.now second.now)) }
+{
+    push_text(out, b"split ")?;
+    push_number(out, u64::from(position))?;
+    push_text(out, b" ")?;
+    push_name(out, &first.0)?;
+    push_text(out, b" ")?;
+    push_name(out, &second.0)?;
+    push_text(out, b"\n")
+}
+
+#[tactic(auto, unfolding(crate::specs::Texts::refusal_text))]
+fn push_limit(out: &mut Vec<u8>, what: Quantity, value: u64) -> Result<(), NoMemory>
+    ensures { OnOk result (out.new.items ≡ out.old.items ++ refusal_text (Refusal.Limit what value)) }
+{
+    push_text(out, b"limit ")?;
+    push_quantity(out, what)?;
+    push_text(out, b" ")?;
+    push_number(out, value)?;
+    push_text(out, b"\n")
+}
+
+#[tactic(auto, unfolding(crate::specs::Texts::refusal_text))]
+fn push_bad_input(out: &mut Vec<u8>, place: Place, line: u32) -> Result<(), NoMemory>
+    ensures { OnOk result (out.new.items ≡ out.old.items ++ refusal_text (Refusal.BadInput place line)) }
+{
+    push_text(out, b"bad ")?;
+    push_text_place(out, place)?;
+    push_text(out, b" ")?;
+    push_number(out, u64::from(line))?;
+    push_text(out, b"\n")
+}
+
+#[tactic(auto, unfolding(crate::specs::Texts::refusal_text))]
+fn push_fault(out: &mut Vec<u8>, place: Place) -> Result<(), NoMemory>
+    ensures { OnOk result (out.new.items ≡ out.old.items ++ refusal_text (Refusal.OutsideFault place)) }
+{
+    push_text(out, b"fault ")?;
+    push_place(out, place)?;
+    push_text(out, b"\n")
+}
+
+/// The lines of a refusal.
+#[tactic(auto, unfolding(crate::specs::Texts::refusal_text))]
+pub(crate) fn push_refusal(out: &mut Vec<u8>, refusal: &Refusal) -> Result<(), NoMemory>
+    ensures { OnOk result (out.new.items ≡ out.old.items ++ refusal_text refusal.now) }
+{
+    match refusal {
+        Refusal::Usage => push_text(out, b"usage\n"),
+        Refusal::BadInput { place, line } => push_bad_input(out, *place, *line),
+        Refusal::OutsideFault { place } => push_fault(out, *place),
+        Refusal::NoMemory => push_text(out, b"no memory\n"),
+        Refusal::Split {
+            position,
+            first,
+            second,
+        } => push_split(out, *position, first, second),
+        Refusal::Limit { what, value } => push_limit(out, *what, *value),
+    }
+}
