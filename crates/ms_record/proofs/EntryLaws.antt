@@ -1,5 +1,5 @@
 -- An entry that is read is spelled so, and what is spelled so is read again.
-use Rattle.std.proofs.Common.{◌≡◌, ℕ, zero, suc, ◌+◌, ◌^◌, ◌<◌, ◌≤◌, Bool, true, false, cond, List, [], ◌∷◌, ◌++◌, length, Option, Some, None, refl, sym, ap, subst, ◌∙◌, append_assoc, append-nil, arith, ◌⊎◌, inl, inr}
+use Rattle.std.proofs.Common.{◌≡◌, ℕ, ◌^◌, Bool, true, false, cond, List, [], ◌∷◌, ◌++◌, Option, Some, None, refl, sym, ap, subst, ◌∙◌, append_assoc, append-nil, ◌⊎◌, inl, inr}
 use Rattle.std.specs.Prelude.{IfSome, ◌==◌}
 use Rattle.std.specs.Int.{w32, to_be_bytes}
 use Rattle.std.proofs.lemmas.Bool.{eqb-true}
@@ -7,7 +7,7 @@ use Rattle.ms_text.specs.Options.{◌>>=◌}
 use Rattle.ms_base.specs.declared.names.Name.{Name}
 use Rattle.ms_base.specs.declared.names.ClientId.{ClientId}
 use Rattle.ms_record.specs.declared.entry.Entry.{Entry}
-use Rattle.ms_record.specs.Fields.{IsBytes, Field, byte_at, number_at, name_at, client_at, at_end}
+use Rattle.ms_record.specs.Fields.{IsBytes, number_at, name_at, client_at, at_end}
 use Rattle.ms_record.specs.Plans.{PlanView, IsPlan, plan_text}
 use Rattle.ms_record.specs.Entries.{IsEntry, tag_of, plan_part, entry_text}
 use Rattle.ms_record.specs.Reading.{plan_at, push_at, plan_entry_at, tagged_at, entry_at}

@@ -1,10 +1,9 @@
 -- A plan whose rows stand at the front of its places.
-use Rattle.std.proofs.Common.{◌≡◌, ℕ, ◌-◌, ◌≤◌, List, ◌++◌, refl, sym, ap, ◌∙◌, subst, length, take, drop, arith, length-append}
+use Rattle.std.proofs.Common.{◌≡◌, ◌-◌, ◌≤◌, ◌++◌, refl, sym, ap, ◌∙◌, subst, length, take, drop, arith, length-append}
 use Rattle.std.specs.Prelude.{replicate}
-use Rattle.std.proofs.lemmas.List.{take_at, drop_at, drop-replicate, length-replicate, length-drop}
-use Rattle.ms_record.specs.declared.plan.PlanRow.{PlanRow}
+use Rattle.std.proofs.lemmas.List.{take_at, drop_at, drop-replicate, length-replicate}
 use Rattle.ms_record.specs.declared.plan.Plan.TheInside.{Inside}
-use Rattle.ms_record.specs.Plans.{PlanView, IsPlan, plan_of, no_row}
+use Rattle.ms_record.specs.Plans.{PlanView, IsPlan, no_row}
 use Rattle.ms_record.specs.PlanInside.{seen, IsKept}
 
 -- these rows, and the places without one

@@ -1,5 +1,5 @@
 -- A plan that is read is spelled so, and what is spelled so is read again.
-use Rattle.std.proofs.Common.{◌≡◌, ℕ, zero, suc, ◌+◌, ◌^◌, ◌<◌, ◌≤◌, List, [], ◌∷◌, ◌++◌, length, Option, Some, None, refl, sym, ap, subst, ◌∙◌, append_assoc, arith, slice_get}
+use Rattle.std.proofs.Common.{◌≡◌, ℕ, zero, suc, ◌^◌, ◌<◌, ◌≤◌, List, [], ◌∷◌, ◌++◌, length, Some, refl, sym, ap, subst, ◌∙◌, append_assoc, arith, slice_get}
 use Rattle.std.specs.Int.{w32, w64, to_be_bytes}
 use Rattle.std.specs.List.{flat_map}
 use Rattle.std.proofs.lemmas.List.Concat.{flat_map-cons}
@@ -7,8 +7,8 @@ use Rattle.std.proofs.lemmas.Option.{same_Some, none-some}
 use Rattle.ms_text.specs.Options.{◌>>=◌}
 use Rattle.ms_record.specs.declared.plan.PlanRow.{PlanRow}
 use Rattle.ms_record.specs.Fields.{IsBytes, Field, number_at, number_within}
-use Rattle.ms_record.specs.Plans.{PlanView, IsRow, IsPlan, plan_of, row_text, plan_text}
-use Rattle.ms_record.specs.PlanTests.{AreCapacities, plan_if}
+use Rattle.ms_record.specs.Plans.{PlanView, IsPlan, plan_of, row_text, plan_text}
+use Rattle.ms_record.specs.PlanTests.{plan_if}
 use Rattle.ms_record.specs.Reading.{row_at, rows_at, plan_at}
 use Rattle.ms_record.proofs.FieldLaws.{bind_some, some_is, Takes, Takes-then, wide32, wide64, number_takes, number_again, within_takes, within_again}
 use Rattle.ms_record.proofs.PlanRules.{plan_if_given, plan_if_keeps}

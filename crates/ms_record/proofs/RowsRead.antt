@@ -1,5 +1,5 @@
 -- Rows one after another: their capacities, and the test of them.
-use Rattle.std.proofs.Common.{◌≡◌, ℕ, suc, ◌+◌, ◌^◌, ◌<◌, ◌≤◌, Bool, true, List, Option, Some, refl, sym, ◌∙◌, subst, length, drop, get_or, slice_get, below_more, drop-cons, arith}
+use Rattle.std.proofs.Common.{◌≡◌, ℕ, suc, ◌+◌, ◌^◌, ◌<◌, ◌≤◌, Bool, true, List, Some, refl, sym, ◌∙◌, subst, length, drop, get_or, slice_get, below_more, drop-cons, arith}
 use Rattle.std.specs.Prelude.{nat_le}
 use Rattle.std.proofs.lemmas.Bool.{le-leb}
 use Rattle.std.proofs.lemmas.Option.{slice_get_within, get_or_from_slice_get}

@@ -1,5 +1,5 @@
 -- The derived test of entries is true exactly where the two are one.
-use Rattle.std.proofs.Common.{◌≡◌, ℕ, ◌-◌, Bool, true, false, List, ◌++◌, Option, Some, None, refl, sym, ap, ◌∙◌, subst, length, take, replicate}
+use Rattle.std.proofs.Common.{◌≡◌, ◌-◌, Bool, List, ◌++◌, Option, Some, None, refl, sym, ap, ◌∙◌, length, take, replicate}
 use Rattle.std.specs.Prelude.{◌&&◌, ◌==◌}
 use Rattle.std.specs.Bool.{Decides}
 use Rattle.std.specs.Option.{option_eq}

@@ -1,5 +1,5 @@
 -- Ballots are ordered by round, then by client.
-use Rattle.std.specs.Prelude.{◌≡◌, ℕ, ◌<◌, ◌≤◌}
+use Rattle.std.specs.Prelude.{◌≡◌, ◌<◌, ◌≤◌}
 use Rattle.ms_record.specs.declared.ballot.Ballot.{Ballot}
 
 abbrev pub IsBelow : Ballot → Ballot → Type 0

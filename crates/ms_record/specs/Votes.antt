@@ -1,6 +1,6 @@
 -- What a vote list shows: promised Prepares, taken Accepts, the Best before a place; and from the
 -- lists of several services, which entry is chosen.
-use Rattle.std.specs.Prelude.{◌≡◌, ℕ, ◌+◌, ◌*◌, ◌<◌, ◌≤◌, Bool, true, List, Option, Some, None, length, slice_get, count_by, Contains}
+use Rattle.std.specs.Prelude.{◌≡◌, ℕ, ◌*◌, ◌<◌, ◌≤◌, Bool, true, List, Option, Some, None, length, slice_get, count_by, Contains}
 use Rattle.std.specs.List.{range_with_len}
 use Rattle.ms_record.specs.declared.ballot.Ballot.{Ballot}
 use Rattle.ms_record.specs.declared.ballot.Vote.{Vote}

@@ -13,28 +13,34 @@ const ZEROS: Name = Name([0; 32]);
 
 const ONES: Name = Name([17; 32]);
 
-/// The push of client 0 with number 1.
+/// The push of client 0 with number 1: its tag and the name before, its numbers, its version.
 const PUSH: &str =
-    "55000000000000000000000000000000000000000000000000000000000000000000000000000000011111111111111111111111111111111111111111111111111111111111111111";
+    "5500000000000000000000000000000000000000000000000000000000000000000000000000000001";
 
-/// The plan of a configuration of three services with unit 1,000 and replicas 2.
-const PLAN: &str =
-    "00000001000000010000000200000000000003e8000000030000000000000000000003e80000000100000000000003e80000000200000000000003e8";
+const PUSH_OF_CLIENT_16: &str =
+    "5500000000000000000000000000000000000000000000000000000000000000000000001000000001";
 
-/// A plan entry of client 0 with number 0, up to its plan.
+const VERSION: &str = "1111111111111111111111111111111111111111111111111111111111111111";
+
+/// The plan of a configuration of three services with unit 1,000 and replicas 2, up to its rows.
+const PLAN: &str = "00000001000000010000000200000000000003e800000003";
+
+/// Three services with 1,000 bytes each.
+const ROWS: &str = "0000000000000000000003e80000000100000000000003e80000000200000000000003e8";
+
+/// The plan of one service with unit 1,000, up to its row.
+const SMALL_PLAN: &str = "00000001000000010000000100000000000003e800000001";
+
+/// A plan entry of client 0 with number 0, up to its version.
 const PLAN_ENTRY: &str =
-    "4c000000000000000000000000000000000000000000000000000000000000000000000000000000001111111111111111111111111111111111111111111111111111111111111111";
+    "4c00000000000000000000000000000000000000000000000000000000000000000000000000000000";
 
 /// A plan entry whose numbers are as great as they may be.
 const GREATEST: &str =
     "4c000102030405060708090a0b0c0d0e0f101112131415161718191a1b1c1d1e1f0000000ffffffffffffefdfcfbfaf9f8f7f6f5f4f3f2f1f0efeeedecebeae9e8e7e6e5e4e3e2e1e0fffffffe00000001000000018000000000000000000000020000000380000000000000000000000fffffffffffffffff";
 
-/// A plan of 16 services of 16 copies.
-const SIXTEEN_ROWS: &str =
-    "00000001000000010000001000000000000003e8000000100000000000000000000042670000000100000000000042670000000200000000000042670000000300000000000042670000000400000000000042670000000500000000000042670000000600000000000042670000000700000000000042670000000800000000000042670000000900000000000042670000000a00000000000042670000000b00000000000042670000000c00000000000042670000000d00000000000042670000000e00000000000042670000000f0000000000004267";
-
 /// Texts that are no records.
-const NO_RECORDS: [&str; 16] = [
+const NO_RECORDS: [&str; 10] = [
     // a tag alone
     "50",
     // a byte missing
@@ -53,91 +59,99 @@ const NO_RECORDS: [&str; 16] = [
     "5000000001ffffffff00000000",
     // client 16
     "50000000010000000300000010",
-    // an entry behind a Prepare
-    "5000000001000000030000000055000000000000000000000000000000000000000000000000000000000000000000000000000000011111111111111111111111111111111111111111111111111111111111111111",
     // no entry behind an Accept
     "41000000010000000100000001",
-    // an Accept with a byte missing
-    "41000000010000000100000001550000000000000000000000000000000000000000000000000000000000000000000000000000000111111111111111111111111111111111111111111111111111111111111111",
-    // an Accept with a trailing byte
-    "410000000100000001000000015500000000000000000000000000000000000000000000000000000000000000000000000000000001111111111111111111111111111111111111111111111111111111111111111100",
-    // an Accept of round 0
-    "4100000001000000000000000155000000000000000000000000000000000000000000000000000000000000000000000000000000011111111111111111111111111111111111111111111111111111111111111111",
-    // an Accept of an entry of client 16
-    "4100000001000000010000000155000000000000000000000000000000000000000000000000000000000000000000000010000000011111111111111111111111111111111111111111111111111111111111111111",
-    // an entry
-    "55000000000000000000000000000000000000000000000000000000000000000000000000000000011111111111111111111111111111111111111111111111111111111111111111",
 ];
 
-/// Texts that are no entries.
-const NO_ENTRIES: [&str; 8] = [
-    // a tag alone
-    "55",
-    // a byte missing
-    "550000000000000000000000000000000000000000000000000000000000000000000000000000000111111111111111111111111111111111111111111111111111111111111111",
-    // a trailing byte
-    "5500000000000000000000000000000000000000000000000000000000000000000000000000000001111111111111111111111111111111111111111111111111111111111111111100",
-    // another tag
-    "56000000000000000000000000000000000000000000000000000000000000000000000000000000011111111111111111111111111111111111111111111111111111111111111111",
-    // client 16
-    "55000000000000000000000000000000000000000000000000000000000000000000000010000000011111111111111111111111111111111111111111111111111111111111111111",
-    // a plan behind a push
-    "5500000000000000000000000000000000000000000000000000000000000000000000000000000001111111111111111111111111111111111111111111111111111111111111111100000001000000010000000200000000000003e8000000030000000000000000000003e80000000100000000000003e80000000200000000000003e8",
-    // no plan behind a plan entry
-    "4c000000000000000000000000000000000000000000000000000000000000000000000000000000011111111111111111111111111111111111111111111111111111111111111111",
+/// What stands before a push in texts that are no records.
+const NO_ACCEPTS: [&str; 6] = [
     // a Prepare
     "50000000010000000300000000",
+    // nothing
+    "",
+    // a tag alone
+    "41",
+    // round 0
+    "41000000010000000000000001",
+    // client 16
+    "41000000010000000100000010",
+    // a byte too many
+    "4100000001000000010000000100",
 ];
 
-/// Texts that are no plans.
-const NO_PLANS: [&str; 18] = [
-    // a byte missing
-    "00000001000000010000000200000000000003e8000000030000000000000000000003e80000000100000000000003e80000000200000000000003",
-    // a trailing byte
-    "00000001000000010000000200000000000003e8000000030000000000000000000003e80000000100000000000003e80000000200000000000003e800",
+/// Texts that are no plans, each but for three rows at its end.
+const NO_PLANS: [&str; 12] = [
     // generation 0
-    "00000000000000010000000200000000000003e8000000030000000000000000000003e80000000100000000000003e80000000200000000000003e8",
+    "00000000000000010000000200000000000003e800000003",
     // generation 4,294,967,295
-    "ffffffff000000010000000200000000000003e8000000030000000000000000000003e80000000100000000000003e80000000200000000000003e8",
+    "ffffffff000000010000000200000000000003e800000003",
     // format 0
-    "00000001000000000000000200000000000003e8000000030000000000000000000003e80000000100000000000003e80000000200000000000003e8",
+    "00000001000000000000000200000000000003e800000003",
     // format 2
-    "00000001000000020000000200000000000003e8000000030000000000000000000003e80000000100000000000003e80000000200000000000003e8",
+    "00000001000000020000000200000000000003e800000003",
     // replicas 0
-    "00000001000000010000000000000000000003e8000000030000000000000000000003e80000000100000000000003e80000000200000000000003e8",
+    "00000001000000010000000000000000000003e800000003",
     // replicas above the rows
-    "00000001000000010000000400000000000003e8000000030000000000000000000003e80000000100000000000003e80000000200000000000003e8",
+    "00000001000000010000000400000000000003e800000003",
     // unit 0
-    "0000000100000001000000020000000000000000000000030000000000000000000003e80000000100000000000003e80000000200000000000003e8",
+    "000000010000000100000002000000000000000000000003",
     // no rows
     "00000001000000010000000100000000000003e800000000",
     // 17 rows
-    "00000001000000010000000100000000000003e8000000110000000000000000000003e80000000100000000000003e80000000200000000000003e80000000300000000000003e80000000400000000000003e80000000500000000000003e80000000600000000000003e80000000700000000000003e80000000800000000000003e80000000900000000000003e80000000a00000000000003e80000000b00000000000003e80000000c00000000000003e80000000d00000000000003e80000000e00000000000003e80000000f00000000000003e80000001000000000000003e8",
+    "00000001000000010000000200000000000003e800000011",
     // a row fewer than counted
-    "00000001000000010000000200000000000003e8000000040000000000000000000003e80000000100000000000003e80000000200000000000003e8",
+    "00000001000000010000000200000000000003e800000004",
     // a row more than counted
-    "00000001000000010000000200000000000003e8000000020000000000000000000003e80000000100000000000003e80000000200000000000003e8",
-    // a service twice
-    "00000001000000010000000200000000000003e8000000020000000000000000000003e80000000000000000000003e8",
-    // services that fall
-    "00000001000000010000000200000000000003e8000000020000000100000000000003e80000000000000000000003e8",
-    // service 16
-    "00000001000000010000000100000000000003e8000000010000001000000000000003e8",
-    // no copy
-    "00000001000000010000000100000000000003e8000000010000000000000000000003e7",
-    // 17 copies
-    "00000001000000010000000100000000000003e800000001000000000000000000004268",
+    "00000001000000010000000200000000000003e800000002",
+    // a byte missing in front
+    "000001000000010000000200000000000003e800000003",
 ];
 
-fn bytes(alloc: Global, digits: &str) -> Result<Vec<u8>, &'static str> {
+/// Texts that are no rows of a plan of one service with unit 1,000.
+const NO_ROWS: [&str; 6] = [
+    // nothing
+    "",
+    // a byte missing
+    "0000000000000000000003",
+    // a trailing byte
+    "0000000000000000000003e800",
+    // service 16
+    "0000001000000000000003e8",
+    // no copy
+    "0000000000000000000003e7",
+    // 17 copies
+    "000000000000000000004268",
+];
+
+fn bytes(alloc: Global, parts: &[&str]) -> Result<Vec<u8>, &'static str> {
+    let mut digits = String::new(alloc);
+    for part in parts {
+        digits.push_str(part).ok().ok_or("memory")?;
+    }
     hex_bytes(alloc, digits.as_bytes())
         .ok()
         .ok_or("memory")?
         .ok_or("digits")
 }
 
-fn name(digits: &[u8]) -> Result<Name, &'static str> {
-    Ok(Name(ms_text::name(digits).ok_or("digits")?))
+fn record(alloc: Global, parts: &[&str]) -> Option<Record> {
+    parse_record(&bytes(alloc, parts).ok()?)
+}
+
+fn entry(alloc: Global, parts: &[&str]) -> Option<Entry> {
+    parse_entry(&bytes(alloc, parts).ok()?)
+}
+
+fn is_record(alloc: Global, parts: &[&str]) -> Result<bool, &'static str> {
+    Ok(parse_record(&bytes(alloc, parts)?).is_some())
+}
+
+fn is_entry(alloc: Global, parts: &[&str]) -> Result<bool, &'static str> {
+    Ok(parse_entry(&bytes(alloc, parts)?).is_some())
+}
+
+fn name(digits: &[u8]) -> Option<Name> {
+    Some(Name(ms_text::name(digits)?))
 }
 
 fn row(service: u32, capacity: u64) -> PlanRow {
@@ -157,7 +171,15 @@ fn push() -> Entry {
     }
 }
 
-fn plan(generation: u32) -> Option<Plan> {
+fn ballot(round: u32, client: u32) -> Ballot {
+    Ballot {
+        round,
+        client: ClientId(client),
+    }
+}
+
+/// The plan of the configuration, in this generation.
+fn conf_plan(generation: u32) -> Option<Plan> {
     Plan::new(
         generation,
         1,
@@ -168,74 +190,84 @@ fn plan(generation: u32) -> Option<Plan> {
 }
 
 #[test]
-fn a_prepare_has_thirteen_bytes(rt: HostRuntime) -> Result<(), Fail> {
-    let text = bytes(rt.alloc(), "50000000010000000300000000")?;
-    let ballot = Ballot {
-        round: 3,
-        client: ClientId(0),
-    };
-    let record = parse_record(&text).ok_or("a Prepare")?;
+fn a_prepare_has_thirteen_bytes(rt: HostRuntime) {
+    let ballot_read = ballot(3, 0);
     assert_eq!(rt;
-        record,
-        Record::Prepare {
+        record(rt.alloc(), &["50000000010000000300000000"]),
+        Some(Record::Prepare {
             position: 1,
-            ballot
-        }
+            ballot: ballot_read
+        })
     );
-    assert_eq!(rt; record.position(), 1);
-    assert_eq!(rt; record.ballot(), ballot);
-    let text = bytes(rt.alloc(), "50fffffffefffffffe0000000f")?;
-    let record = parse_record(&text).ok_or("the last Prepare")?;
-    assert_eq!(rt; record.position(), 4_294_967_294);
-    assert_eq!(rt; record.ballot().round, 4_294_967_294);
-    assert_eq!(rt; record.ballot().client, ClientId(15));
-    Ok(())
+    let last = 4_294_967_294;
+    let ballot_read = ballot(last, 15);
+    assert_eq!(rt;
+        record(rt.alloc(), &["50fffffffefffffffe0000000f"]),
+        Some(Record::Prepare {
+            position: last,
+            ballot: ballot_read
+        })
+    );
 }
 
 #[test]
-fn an_accept_ends_with_its_entry(rt: HostRuntime) -> Result<(), Fail> {
-    let text = format!(in rt.alloc(); "41000000010000000100000001{PUSH}")?;
-    let text = bytes(rt.alloc(), &text)?;
-    let ballot = Ballot {
-        round: 1,
-        client: ClientId(1),
+fn an_accept_ends_with_its_entry(rt: HostRuntime) {
+    let accept = Record::Accept {
+        position: 1,
+        ballot: ballot(1, 1),
+        entry: push(),
     };
-    let record = parse_record(&text).ok_or("an Accept")?;
-    assert_eq!(rt; record.position(), 1);
-    assert_eq!(rt; record.ballot(), ballot);
     assert_eq!(rt;
-        record,
-        Record::Accept {
-            position: 1,
-            ballot,
-            entry: push()
-        }
+        record(rt.alloc(), &["41000000010000000100000001", PUSH, VERSION]),
+        Some(accept)
     );
-    Ok(())
+    assert_eq!(rt; accept.position(), 1);
+    assert_eq!(rt; accept.ballot(), ballot(1, 1));
 }
 
 #[test]
 fn a_push_and_its_name(rt: HostRuntime) -> Result<(), Fail> {
-    let text = bytes(rt.alloc(), PUSH)?;
-    assert_eq!(rt; text.len(), 73);
-    let entry = parse_entry(&text).ok_or("a push")?;
-    assert_eq!(rt; entry, push());
+    let entry = entry(rt.alloc(), &[PUSH, VERSION]).ok_or("a push")?;
     assert!(rt; entry.is_same(&push()));
     assert_eq!(rt;
-        entry_name(&entry),
-        name(b"dade1170d120195e0d69f61b486f4a2f54804bae811baad194b7aa9729458623")?
+        Some(entry_name(&entry)),
+        name(b"dade1170d120195e0d69f61b486f4a2f54804bae811baad194b7aa9729458623")
     );
     Ok(())
 }
 
 #[test]
 fn a_plan_entry_and_its_name(rt: HostRuntime) -> Result<(), Fail> {
-    let text = format!(in rt.alloc(); "{PLAN_ENTRY}{PLAN}")?;
-    let text = bytes(rt.alloc(), &text)?;
-    assert_eq!(rt; text.len(), 133);
-    let entry = parse_entry(&text).ok_or("a plan entry")?;
+    let entry = entry(rt.alloc(), &[PLAN_ENTRY, VERSION, PLAN, ROWS]).ok_or("a plan entry")?;
+    assert!(rt; !entry.is_same(&push()));
+    assert_eq!(rt; entry.plan, conf_plan(1));
+    assert_eq!(rt;
+        Some(entry_name(&entry)),
+        name(b"b06ece859bf57ea6b2ef01db682ee0270c2fb63c8ea15a0d403db5f506206059")
+    );
+    Ok(())
+}
+
+#[test]
+fn the_greatest_values_are_read(rt: HostRuntime) -> Result<(), Fail> {
+    let entry = entry(rt.alloc(), &[GREATEST]).ok_or("a plan entry")?;
+    assert_eq!(rt; entry.number, 4_294_967_295);
     let plan = entry.plan.ok_or("a plan")?;
-    assert_eq!(rt; plan.generation(), 1);
+    assert_eq!(rt;
+        plan.rows(),
+        [row(3, 1 << 63), row(15, u64::MAX)].as_slice()
+    );
+    assert_eq!(rt;
+        Some(entry_name(&entry)),
+        name(b"a0d5178ac4f6b8a1e16cc0d399b392801871480836ff88135e6ff53d0965bf60")
+    );
+    Ok(())
+}
+
+#[test]
+fn a_plan_shows_its_values(rt: HostRuntime) -> Result<(), Fail> {
+    let plan = conf_plan(7).ok_or("a plan")?;
+    assert_eq!(rt; plan.generation(), 7);
     assert_eq!(rt; plan.format(), 1);
     assert_eq!(rt; plan.replicas(), 2);
     assert_eq!(rt; plan.unit(), 1000);
@@ -243,53 +275,52 @@ fn a_plan_entry_and_its_name(rt: HostRuntime) -> Result<(), Fail> {
         plan.rows(),
         [row(0, 1000), row(1, 1000), row(2, 1000)].as_slice()
     );
-    assert!(rt; !entry.is_same(&push()));
-    assert_eq!(rt;
-        entry_name(&entry),
-        name(b"b06ece859bf57ea6b2ef01db682ee0270c2fb63c8ea15a0d403db5f506206059")?
-    );
-    Ok(())
-}
-
-#[test]
-fn the_greatest_values_are_read(rt: HostRuntime) -> Result<(), Fail> {
-    let text = bytes(rt.alloc(), GREATEST)?;
-    let entry = parse_entry(&text).ok_or("a plan entry")?;
-    assert_eq!(rt; entry.client, ClientId(15));
-    assert_eq!(rt; entry.number, 4_294_967_295);
-    let plan = entry.plan.ok_or("a plan")?;
-    assert_eq!(rt; plan.generation(), 4_294_967_294);
-    assert_eq!(rt;
-        plan.rows(),
-        [row(3, 1 << 63), row(15, u64::MAX)].as_slice()
-    );
-    assert_eq!(rt;
-        entry_name(&entry),
-        name(b"a0d5178ac4f6b8a1e16cc0d399b392801871480836ff88135e6ff53d0965bf60")?
-    );
-    let text = format!(in rt.alloc(); "{PLAN_ENTRY}{SIXTEEN_ROWS}")?;
-    let text = bytes(rt.alloc(), &text)?;
-    let entry = parse_entry(&text).ok_or("16 rows of 16 copies")?;
-    assert_eq!(rt; entry.plan.ok_or("a plan")?.rows().len(), 16);
     Ok(())
 }
 
 #[test]
 fn a_trailing_byte_is_no_record(rt: HostRuntime) -> Result<(), Fail> {
     assert!(rt; parse_record(b"").is_none());
+    for text in NO_RECORDS {
+        assert!(rt; !is_record(rt.alloc(), &[text])?, "{text}");
+    }
+    for head in NO_ACCEPTS {
+        assert!(rt; !is_record(rt.alloc(), &[head, PUSH, VERSION])?, "{head}");
+    }
+    let accept = "41000000010000000100000001";
+    assert!(rt; !is_record(rt.alloc(), &[accept, PUSH, VERSION, "00"])?);
+    Ok(())
+}
+
+#[test]
+fn a_trailing_byte_is_no_entry(rt: HostRuntime) -> Result<(), Fail> {
     assert!(rt; parse_entry(b"").is_none());
-    for digits in NO_RECORDS {
-        let text = bytes(rt.alloc(), digits)?;
-        assert!(rt; parse_record(&text).is_none(), "{digits}");
+    for parts in [
+        [PUSH, VERSION, "00"],
+        [PUSH_OF_CLIENT_16, VERSION, ""],
+        [
+            PUSH,
+            "11111111111111111111111111111111111111111111111111111111111111",
+            "",
+        ],
+        [PUSH, VERSION, PLAN_ENTRY],
+        [PLAN_ENTRY, VERSION, ""],
+        ["50", VERSION, VERSION],
+    ] {
+        assert!(rt; !is_entry(rt.alloc(), &parts)?, "{parts:?}");
     }
-    for digits in NO_ENTRIES {
-        let text = bytes(rt.alloc(), digits)?;
-        assert!(rt; parse_entry(&text).is_none(), "{digits}");
-    }
+    Ok(())
+}
+
+#[test]
+fn texts_that_break_a_plan_rule_are_no_entries(rt: HostRuntime) -> Result<(), Fail> {
     for plan in NO_PLANS {
-        let digits = format!(in rt.alloc(); "{PLAN_ENTRY}{plan}")?;
-        let text = bytes(rt.alloc(), &digits)?;
-        assert!(rt; parse_entry(&text).is_none(), "{plan}");
+        let parts = [PLAN_ENTRY, VERSION, plan, ROWS];
+        assert!(rt; !is_entry(rt.alloc(), &parts)?, "{plan}");
+    }
+    for rows in NO_ROWS {
+        let parts = [PLAN_ENTRY, VERSION, SMALL_PLAN, rows];
+        assert!(rt; !is_entry(rt.alloc(), &parts)?, "{rows}");
     }
     Ok(())
 }
@@ -300,6 +331,11 @@ fn plan_rules(rt: HostRuntime) {
     let two = [row(2, 16_999), row(15, 1000)];
     assert!(rt; Plan::new(1, 1, 1, 1000, &one).is_some());
     assert!(rt; Plan::new(4_294_967_294, 1, 2, 1000, &two).is_some());
+    let mut sixteen = [row(0, 16_999); 16];
+    for (service, row) in sixteen.iter_mut().enumerate() {
+        row.service = ServiceId(service as u32);
+    }
+    assert!(rt; Plan::new(1, 1, 16, 1000, &sixteen).is_some());
     for (generation, format, replicas, unit) in [
         (0, 1, 1, 1000),
         (4_294_967_295, 1, 1, 1000),
@@ -329,7 +365,7 @@ fn links_on_table(rt: HostRuntime) -> Result<(), Fail> {
     assert!(rt; links_on(&ZEROS, 9, 1, &push()));
     assert!(rt; !links_on(&ONES, 9, 1, &push()));
     let entry = Entry {
-        plan: Some(plan(2).ok_or("a plan")?),
+        plan: Some(conf_plan(2).ok_or("a plan")?),
         ..push()
     };
     for (before, generation, services, links) in [
@@ -351,10 +387,6 @@ fn links_on_table(rt: HostRuntime) -> Result<(), Fail> {
 
 #[test]
 fn ballots_go_by_round_and_then_by_client(rt: HostRuntime) {
-    let ballot = |round, client| Ballot {
-        round,
-        client: ClientId(client),
-    };
     assert!(rt; ballot(1, 15).is_below(ballot(2, 0)));
     assert!(rt; ballot(2, 0).is_below(ballot(2, 1)));
     assert!(rt; !ballot(2, 1).is_below(ballot(2, 1)));

@@ -1,4 +1,4 @@
-use Rattle.std.proofs.Common.{ap, sym, ◌∙◌, arith}
+use Rattle.std.proofs.Common.{ap, ◌∙◌, arith}
 use Rattle.ms_record.specs.Reading.{entry_at}
 use Rattle.ms_record.proofs.EntryLaws.{entry_is_found, entry_is_read_again}
 use Rattle.ms_record.proofs.entry.parse_entry.Goals as goal

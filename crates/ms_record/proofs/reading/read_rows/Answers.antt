@@ -1,4 +1,4 @@
-use Rattle.std.proofs.Common.{sym, ap, ◌∙◌, arith}
+use Rattle.std.proofs.Common.{sym, arith}
 use Rattle.ms_record.proofs.RowsFilled.{ends, filled_on, filled_out}
 use Rattle.ms_record.proofs.reading.read_rows.Goals as goal
 

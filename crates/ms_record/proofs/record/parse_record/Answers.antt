@@ -1,4 +1,4 @@
-use Rattle.std.proofs.Common.{ap, sym, ◌∙◌, arith}
+use Rattle.std.proofs.Common.{ap, ◌∙◌, arith}
 use Rattle.ms_record.specs.Reading.{record_at}
 use Rattle.ms_record.proofs.RecordLaws.{record_is_found, record_is_read_again}
 use Rattle.ms_record.proofs.record.parse_record.Goals as goal

@@ -1,6 +1,6 @@
 use Rattle.std.proofs.Common.{sym, refl}
 use Rattle.std.proofs.lemmas.List.{length-take-le}
-use Rattle.ms_record.specs.Plans.{plan_of, no_row}
+use Rattle.ms_record.specs.Plans.{plan_of}
 use Rattle.ms_record.proofs.Filling.{filled_shows, filled_keeps}
 use Rattle.ms_record.proofs.PlanRules.{plan_keeps}
 use Rattle.ms_record.proofs.plan.Plan.new.Goals as goal
