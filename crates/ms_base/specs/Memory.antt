@@ -28,3 +28,26 @@ after_call failed calls = record { fails = calls.fails; made = one_more calls.ma
 -- the texts by their names
 abbrev pub pairs_of : List InputText → List (List ℕ × List ℕ)
 pairs_of inputs = map (λ i. (i.name, i.text)) inputs
+
+-- a text that is given in steps: what is left of it, the greatest step, whether the last read showed the end
+pub record Feed : Type 0 where
+  pub left : List ℕ
+  pub step : ℕ
+  pub ended : Bool
+  pub calls : Calls
+
+-- what was written, and the greatest step
+pub record Taken : Type 0 where
+  pub text : List ℕ
+  pub step : ℕ
+  pub calls : Calls
+
+-- texts by their names, and whether the last one was read to its end
+pub record Named : Type 0 where
+  pub texts : List (List ℕ × List ℕ)
+  pub ended : Bool
+  pub calls : Calls
+
+-- no call was made
+abbrev pub first_calls : List ℕ → Calls
+first_calls fails = record { fails = fails; made = 0; faults = 0 }

@@ -1,5 +1,5 @@
 -- What reading and writing all of a text did, by cases on the answer.
-use Rattle.std.specs.Prelude.{◌≡◌, ℕ, ◌+◌, ◌<◌, ◌≤◌, true, List, ◌++◌, length, take, Option, Some, None, Result, Ok, Err, IfSome}
+use Rattle.std.specs.Prelude.{◌≡◌, ℕ, ◌+◌, ◌<◌, ◌≤◌, true, false, List, ◌++◌, length, take, Option, Some, None, Result, Ok, Err, IfSome}
 use Rattle.std.specs.Io.KnownBytes.{Appends, Consumes, Keeps, IsAtEnd}
 use Rattle.ms_base.specs.declared.outside.ReadError.{ReadError}
 use Rattle.ms_base.specs.declared.outside.ReadError.TheVariants as errors
@@ -39,6 +39,6 @@ HasLongText view name limit = IfSome view.texts (λ texts. (text : List ℕ) × 
 -- the text of that name, read to its end, or the reason why not
 abbrev pub GivesInput : List ℕ → ℕ → InputsView → InputsView → Result (List ℕ) ReadError → Type 0
 GivesInput name limit old new (Ok text) = HasText old name text × (length text ≤ limit) × (new.ended ≡ true)
-GivesInput name limit old new (Err errors.NoMemory) = Unit {0}
-GivesInput name limit old new (Err errors.Failed) = Rose old.faults new.faults
-GivesInput name limit old new (Err (errors.TooLong bytes)) = (bytes ≡ limit + 1) × HasLongText old name limit
+GivesInput name limit old new (Err errors.NoMemory) = new.ended ≡ false
+GivesInput name limit old new (Err errors.Failed) = Rose old.faults new.faults × (new.ended ≡ false)
+GivesInput name limit old new (Err (errors.TooLong bytes)) = (bytes ≡ limit + 1) × HasLongText old name limit × (new.ended ≡ false)

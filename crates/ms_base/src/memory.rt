@@ -1,9 +1,9 @@
 //! The outside in memory, which fails at the calls that it is told.
 
-ghost use Rattle.std.specs.Prelude.{◌≡◌, ◌<◌, ◌≤◌, ◌+◌, [], length, drop, min, Some, None, Ok, Err, IfSome, MatchOption, IsErr, IsTrue, ◌↔◌, slice_get, OnErr, IfOk};
+ghost use Rattle.std.specs.Prelude.{◌≡◌, ◌<◌, ◌≤◌, ◌+◌, false, [], length, drop, min, Some, None, Ok, Err, IfSome, MatchOption, IsErr, IsTrue, ◌↔◌, slice_get, OnErr, IfOk};
 ghost use Rattle.std.specs.Option.{option_map};
 ghost use Rattle.ms_base.specs.Counts.{Causes, Rose};
-ghost use Rattle.ms_base.specs.Memory.{is_due, after_call, one_more, pairs_of};
+ghost use Rattle.ms_base.specs.Memory.{is_due, after_call, first_calls, one_more, pairs_of};
 ghost use Rattle.ms_base.specs.Outside.{text_named};
 ghost use Rattle.ms_base.specs.declared.outside.ReadError.TheVariants as errors;
 
@@ -77,16 +77,24 @@ pub struct VecSource {
     step: u64,
     ended: bool,
     script: Script,
-    ghost within: { at ≤ length text },
-    ghost stepped: { 0 < step },
+}
+
+impl Model for VecSource {
+    ghost use Rattle.std.specs.Prelude.{◌<◌, ◌≤◌, length, drop};
+    ghost use Rattle.ms_base.specs.Memory.{Feed};
+
+    ghost Value = { Feed };
+
+    ghost view = { λ s. record { left = drop s.at s.text; step = s.step; ended = s.ended; calls = s.script } };
+
+    ghost invariant = { λ s. (s.at ≤ length s.text) × (0 < s.step) };
 }
 
 impl VecSource {
     /// Gives at most `step` bytes a call; the calls of the numbers in `fails` fail.
     pub fn new(text: Bytes, step: u64, fails: Vec<u64>) -> VecSource
         requires { 0 < step }
-        ensures text { drop result.at result.text ≡ text }
-        ensures faults { result.script.faults ≡ 0 }
+        ensures { result ≡ record { left = text; step = step; ended = false; calls = first_calls fails.items } }
     {
         VecSource {
             text,
@@ -99,7 +107,7 @@ impl VecSource {
 }
 
 impl Source for VecSource {
-    ghost seen = { λ s. record { left = Some (drop s.at s.text); ended = s.ended; faults = s.script.faults } };
+    ghost seen = { λ s. record { left = Some s.left; ended = s.ended; faults = s.calls.faults } };
 
     fn read(&mut self, into: &mut [u8]) -> Result<usize, Failed> {
         self.ended = false;
@@ -126,7 +134,17 @@ pub struct VecSink {
     text: Vec<u8>,
     step: u64,
     script: Script,
-    ghost stepped: { 0 < step },
+}
+
+impl Model for VecSink {
+    ghost use Rattle.std.specs.Prelude.{◌<◌};
+    ghost use Rattle.ms_base.specs.Memory.{Taken};
+
+    ghost Value = { Taken };
+
+    ghost view = { λ s. record { text = s.text.items; step = s.step; calls = s.script } };
+
+    ghost invariant = { λ s. 0 < s.step };
 }
 
 impl VecSink {
@@ -134,8 +152,7 @@ impl VecSink {
     /// those that find no memory.
     pub fn new(alloc: Global, step: u64, fails: Vec<u64>) -> VecSink
         requires { 0 < step }
-        ensures text { result.text.items ≡ [] }
-        ensures faults { result.script.faults ≡ 0 }
+        ensures { result ≡ record { text = []; step = step; calls = first_calls fails.items } }
     {
         VecSink {
             text: Vec::new(alloc),
@@ -146,14 +163,14 @@ impl VecSink {
 
     /// What was written.
     pub fn text(&self) -> &[u8]
-        ensures { result.now ≡ self.now.text.items }
+        ensures { result.now ≡ self.now.text }
     {
         &self.text
     }
 }
 
 impl Sink for VecSink {
-    ghost seen = { λ s. record { contents = Some s.text.items; faults = s.script.faults } };
+    ghost seen = { λ s. record { contents = Some s.text; faults = s.calls.faults } };
 
     fn write(&mut self, from: &[u8]) -> Result<usize, Failed> {
         if self.script.call() {
@@ -187,11 +204,20 @@ pub struct MemoryInputs {
     script: Script,
 }
 
+impl Model for MemoryInputs {
+    ghost use Rattle.ms_base.specs.Memory.{Named};
+
+    ghost Value = { Named };
+
+    ghost use Rattle.ms_base.specs.Memory.{pairs_of};
+
+    ghost view = { λ s. record { texts = pairs_of s.inputs.items; ended = s.ended; calls = s.script } };
+}
+
 impl MemoryInputs {
     /// The calls of the numbers in `fails` fail.
     pub fn new(inputs: Vec<InputText>, fails: Vec<u64>) -> MemoryInputs
-        ensures inputs { result.inputs.items ≡ inputs.items }
-        ensures faults { result.script.faults ≡ 0 }
+        ensures { result ≡ record { texts = pairs_of inputs.items; ended = false; calls = first_calls fails.items } }
     {
         MemoryInputs {
             inputs,
@@ -216,7 +242,7 @@ fn place_of(inputs: &[InputText], name: &[u8]) -> Option<usize>
 }
 
 impl Inputs for MemoryInputs {
-    ghost seen = { λ s. record { texts = Some (pairs_of s.inputs.items); ended = s.ended; faults = s.script.faults } };
+    ghost seen = { λ s. record { texts = Some s.texts; ended = s.ended; faults = s.calls.faults } };
 
     fn input(&mut self, alloc: Global, name: &str) -> Result<Bytes, ReadError> {
         self.ended = false;

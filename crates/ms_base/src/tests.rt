@@ -102,3 +102,17 @@ fn lists_are_lists(rt: HostRuntime) {
         service: ServiceId(0),
     });
 }
+
+#[test]
+fn a_call_moves_at_most_a_step(rt: HostRuntime) {
+    let alloc = rt.alloc();
+    let mut from = source(alloc, b"hello\n", 4, &[]).expect(&rt, "memory");
+    let mut piece = [0; 9];
+    assert!(rt; from.read(&mut piece) == Ok(4));
+    assert!(rt; piece.starts_with(b"hell\0"));
+    assert!(rt; from.read(&mut piece) == Ok(2));
+    assert!(rt; from.read(&mut piece) == Ok(0));
+    let mut out = VecSink::new(alloc, 4, Vec::new(alloc));
+    assert!(rt; out.write(b"hello\n") == Ok(4));
+    assert_eq!(rt; out.text(), b"hell".as_slice());
+}

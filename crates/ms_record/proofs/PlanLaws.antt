@@ -4,7 +4,7 @@ use Rattle.std.specs.Int.{w32, w64, to_be_bytes}
 use Rattle.std.specs.List.{flat_map}
 use Rattle.std.proofs.lemmas.List.Concat.{flat_map-cons}
 use Rattle.std.proofs.lemmas.Option.{same_Some, none-some}
-use Rattle.ms_text.specs.Options.{◌>>=◌}
+use Rattle.ms_base.specs.Options.{◌>>=◌}
 use Rattle.ms_record.specs.declared.plan.PlanRow.{PlanRow}
 use Rattle.ms_record.specs.Fields.{IsBytes, Field, number_at, number_within}
 use Rattle.ms_record.specs.Plans.{PlanView, IsPlan, plan_of, row_text, plan_text}

@@ -1,7 +1,7 @@
 -- Fields of bytes: what is read from the front of a text, and the bytes after it.
 use Rattle.std.specs.Prelude.{ℕ, ◌<◌, ◌&&◌, nat_lt, nat_le, List, [], ◌∷◌, length, take, drop, slice_index, Option, Some, None, if◌then◌else◌}
 use Rattle.std.specs.Int.{Width, w32, byte_len, from_be_bytes}
-use Rattle.ms_text.specs.Options.{◌>>=◌}
+use Rattle.ms_base.specs.Options.{◌>>=◌}
 use Rattle.ms_base.specs.declared.names.Name.{Name}
 use Rattle.ms_base.specs.declared.names.ClientId.{ClientId}
 

@@ -4,7 +4,6 @@ use crate::{
     Ballot, Entry, Plan, PlanRow, Record, entry_name, links_on, parse_entry, parse_record,
 };
 use ms_base::{ClientId, Name, ServiceId};
-use ms_text::hex_bytes;
 use std::alloc::Global;
 use std::test::*;
 
@@ -128,9 +127,8 @@ fn bytes(alloc: Global, parts: &[&str]) -> Result<Vec<u8>, &'static str> {
     for part in parts {
         digits.push_str(part).ok().ok_or("memory")?;
     }
-    hex_bytes(alloc, digits.as_bytes())
+    hex::decode(alloc, digits.as_bytes())
         .ok()
-        .ok_or("memory")?
         .ok_or("digits")
 }
 
@@ -151,7 +149,7 @@ fn is_entry(alloc: Global, parts: &[&str]) -> Result<bool, &'static str> {
 }
 
 fn name(digits: &[u8]) -> Option<Name> {
-    Some(Name(ms_text::name(digits)?))
+    Some(Name(<[u8; 32] as hex::FromHex>::from_hex(digits).ok()?))
 }
 
 fn row(service: u32, capacity: u64) -> PlanRow {
