@@ -127,9 +127,7 @@ fn bytes(alloc: Global, parts: &[&str]) -> Result<Vec<u8>, &'static str> {
     for part in parts {
         digits.push_str(part).ok().ok_or("memory")?;
     }
-    hex::decode(alloc, digits.as_bytes())
-        .ok()
-        .ok_or("digits")
+    hex::decode(alloc, digits.as_bytes()).ok().ok_or("digits")
 }
 
 fn record(alloc: Global, parts: &[&str]) -> Option<Record> {
