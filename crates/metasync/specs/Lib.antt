@@ -1,0 +1,4 @@
+pub mod Causes
+pub mod Audits
+pub mod Answers
+pub mod Statuses

@@ -1,0 +1,62 @@
+//! The house on a real folder. What its files hold is not told.
+
+ghost use Rattle.std.specs.Prelude.{◌≡◌, None};
+
+use ms_base::{Bytes, Inputs, MOST_INPUT, NoMemory, ReadError, Source, StdSource, read_all};
+use std::alloc::Global;
+use std::fs;
+use std::path::PathBuf;
+use std::rt::Files;
+
+/// The inputs under a folder: a relative name is joined to it, an absolute one is itself.
+#[derive(Drop)]
+pub struct FolderHouse<'a, R> {
+    rt: &'a R,
+    folder: PathBuf,
+    ended: bool,
+    faults: u64,
+}
+
+impl<'a, R> FolderHouse<'a, R> {
+    pub fn new(alloc: Global, rt: &'a R, folder: &str) -> Result<FolderHouse<'a, R>, NoMemory> {
+        let folder = PathBuf::from_str(alloc, folder)?;
+        Ok(FolderHouse {
+            rt,
+            folder,
+            ended: false,
+            faults: 0,
+        })
+    }
+}
+
+impl<'a, R: Files> Inputs for FolderHouse<'a, R>
+where
+    R::File: Drop,
+{
+    ghost seen = { λ s. record { texts = None; ended = s.ended; faults = s.faults } };
+
+    fn input(&mut self, alloc: Global, name: &str) -> Result<Bytes, ReadError> {
+        self.ended = false;
+        let path = self.folder.join(alloc, name)?;
+        let Ok(file) = fs::open(self.rt, path.as_path()) else {
+            self.faults = self.faults.saturating_add(1);
+            return Err(ReadError::Failed);
+        };
+        let mut source = StdSource::new(file);
+        let read = read_all(alloc, &mut source, MOST_INPUT);
+        match &read {
+            Ok(_) => {
+                self.ended = true;
+            }
+            Err(ReadError::Failed) => {
+                self.faults = self.faults.saturating_add(1);
+            }
+            Err(_) => {}
+        }
+        read
+    }
+
+    fn faults(&self) -> u64 {
+        self.faults
+    }
+}

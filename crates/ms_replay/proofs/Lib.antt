@@ -1,0 +1,12 @@
+pub mod BallotOrder
+pub mod Growing
+pub mod Feeding
+pub mod Places
+pub mod ReadingOn
+pub mod VoteOrder
+pub mod TallyOn
+pub mod Groups
+pub mod Parts
+pub mod Choosing
+pub mod Agreeing
+pub mod Linking

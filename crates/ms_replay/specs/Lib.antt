@@ -1,0 +1,9 @@
+pub use Rattle.ms_base.specs.Outside
+pub mod Dumps
+pub mod Acceptors
+pub mod Tallies
+pub mod TallyInside
+pub mod Standings
+pub mod Winners
+pub mod Audits
+pub mod Steps

@@ -1,0 +1,15 @@
+//! What the vote lists of services say: promises, votes, chosen entries, dumps and their chains.
+#![tactic(auto)]
+
+pub mod acceptor;
+pub mod audit;
+pub mod dump;
+pub mod standing;
+pub mod tally;
+pub mod voted;
+
+pub use acceptor::{Acceptor, Verdict};
+pub use audit::{Audit, audit_dump};
+pub use dump::{Dump, Lists, read_dump};
+pub use standing::Standing;
+pub use tally::Tally;
