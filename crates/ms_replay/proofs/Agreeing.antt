@@ -1,20 +1,18 @@
 -- Whether two entries are chosen at a position.
-use Rattle.std.proofs.Common.{◌≡◌, ◌≢◌, ℕ, ◌+◌, ◌<◌, ◌≤◌, List, [], ◌∷◌, ◌++◌, Option, Some, None, inl, inr, refl, sym, ap, ◌∙◌, subst, slice_get, length, get_or, map, arith}
+use Rattle.std.proofs.Common.{◌≡◌, ℕ, ◌+◌, ◌<◌, ◌≤◌, List, Some, inl, inr, refl, sym, ap, ◌∙◌, subst, slice_get, arith}
 use Rattle.std.proofs.lemmas.Bool.{cases_lt}
-use Rattle.std.proofs.lemmas.Option.{slice_get_within}
 use Rattle.ms_record.specs.declared.ballot.Ballot.{Ballot}
 use Rattle.ms_record.specs.declared.entry.Entry.{Entry}
 use Rattle.ms_record.specs.declared.record.Record.{Record}
 use Rattle.ms_record.specs.declared.record.Record.TheVariants.{Accept}
-use Rattle.ms_record.specs.Chains.{AgreesAt, IsChosen}
-use Rattle.ms_record.specs.Records.{IsPosition, last_position}
-use Rattle.ms_record.specs.Votes.{position_of, IsTaken, ChosenBy, services_below}
+use Rattle.ms_record.specs.Chains.{AgreesAt}
+use Rattle.ms_record.specs.Votes.{IsTaken, ChosenBy, services_below}
 use Rattle.ms_replay.specs.declared.standing.Standing.{Standing}
 use Rattle.ms_replay.specs.declared.standing.Standing.TheVariants.{Unseen, Seen, Chosen, Split}
 use Rattle.ms_replay.specs.declared.voted.Voted.{Voted}
-use Rattle.ms_replay.specs.Audits.{AllAgree, IsLeastSplit}
+use Rattle.ms_replay.specs.Audits.{AllAgree}
 use Rattle.ms_replay.specs.Standings.{NoneTaken, NoneChosen, IsStanding}
-use Rattle.ms_replay.specs.Tallies.{TallyView, AreVotes, AreSorted, IsTallyOf, vote_cmp}
+use Rattle.ms_replay.specs.Tallies.{TallyView, AreVotes, AreSorted, IsTallyOf}
 use Rattle.ms_replay.proofs.Choosing.{voter_below, count_some}
 use Rattle.ms_replay.proofs.Groups.{fixes}
 use Rattle.ms_replay.proofs.VoteOrder.{in_order, not_before}

@@ -1,8 +1,8 @@
 -- What the votes of a tally show is what the lists show.
-use Rattle.std.proofs.Common.{◌≡◌, ◌≢◌, ℕ, zero, suc, ◌+◌, ◌-◌, ◌*◌, ◌<◌, ◌≤◌, Bool, true, false, ◌&&◌, cond, List, [], ◌∷◌, ◌++◌, Option, Some, None, inl, inr, refl, sym, ap, ◌∙◌, subst, slice_get, length, get_or, count_by, zero-add, arith}
+use Rattle.std.proofs.Common.{◌≡◌, ℕ, ◌+◌, ◌<◌, ◌≤◌, Bool, true, false, ◌&&◌, cond, List, [], ◌∷◌, Option, Some, None, refl, sym, ap, ◌∙◌, subst, slice_get, length, count_by, zero-add, arith}
 use Rattle.std.specs.Prelude.{bytes_eq, ◌==◌}
 use Rattle.std.specs.Cmp.Lexicographic.{same_text}
-use Rattle.std.specs.List.{Contains, range_with_len}
+use Rattle.std.specs.List.{Contains}
 use Rattle.std.proofs.lemmas.Bool.Decides.{nat_tests}
 use Rattle.std.proofs.lemmas.List.FromFn.{length-range_with_len, get_or-range_with_len}
 use Rattle.std.proofs.lemmas.List.Sums.{sum_by-cons}
@@ -19,9 +19,9 @@ use Rattle.ms_record.specs.Votes.{IsTaken, ChosenBy, services_below}
 use Rattle.ms_replay.specs.declared.standing.Standing.{Standing}
 use Rattle.ms_replay.specs.declared.standing.Standing.TheVariants.{Unseen, Seen, Chosen, Split}
 use Rattle.ms_replay.specs.declared.voted.Voted.{Voted}
-use Rattle.ms_replay.specs.Standings.{IsTextAtMost, IsNoLater, NoneTaken, IsGreatestVote, NoneChosen, Differs, IsGiven, IsFirstChosen, IsOnlyChosen, IsStanding}
-use Rattle.ms_replay.specs.Tallies.{TallyView, IsVote, AreVotes, AreKnown, HasVote, IsReadOf, IsTallyOf}
-use Rattle.ms_replay.specs.Winners.{IsPartAt, AreHere, has_text, HasMajority, IsWinner, IsFirstWinner, IsGreatestHere, StandsBeside}
+use Rattle.ms_replay.specs.Standings.{IsNoLater, NoneTaken, IsGreatestVote, NoneChosen, IsFirstChosen, IsStanding}
+use Rattle.ms_replay.specs.Tallies.{TallyView, AreVotes, AreKnown, HasVote, IsTallyOf}
+use Rattle.ms_replay.specs.Winners.{IsPartAt, has_text, IsWinner, IsFirstWinner, IsGreatestHere, StandsBeside}
 use Rattle.ms_replay.proofs.Groups.{fixes, bytes_same, number_is, entries_order}
 use Rattle.ms_replay.proofs.Places.{any_at, at_any, and_true}
 

@@ -1,5 +1,5 @@
 -- The acceptor goes on by one record.
-use Rattle.std.proofs.Common.{◌≡◌, ◌≢◌, ℕ, ◌<◌, ◌≤◌, suc, zero, ◌+◌, Bool, true, List, [], ◌∷◌, ◌++◌, Option, Some, None, ◌⊎◌, inl, inr, refl, sym, ap, ◌∙◌, subst, slice_get, length, IsSomeAnd, arith}
+use Rattle.std.proofs.Common.{◌≡◌, ◌≢◌, ℕ, ◌<◌, List, [], ◌∷◌, ◌++◌, Option, Some, None, ◌⊎◌, inl, inr, refl, sym, ap, ◌∙◌, subst, slice_get, length, arith}
 use Rattle.std.proofs.lemmas.List.{length_push}
 use Rattle.std.proofs.lemmas.Bool.{cases_lt}
 use Rattle.std.proofs.lemmas.Option.{slice_get_within}
@@ -9,11 +9,11 @@ use Rattle.ms_record.specs.declared.ballot.Vote.{Vote}
 use Rattle.ms_record.specs.declared.record.Record.{Record}
 use Rattle.ms_record.specs.declared.record.Record.TheVariants.{Prepare, Accept}
 use Rattle.ms_replay.specs.declared.acceptor.Acceptor.{Acceptor}
-use Rattle.ms_record.specs.Votes.{position_of, ballot_of, NoneAbove, IsTaken, IsPromised, IsGreatestTaken, IsBest}
+use Rattle.ms_record.specs.Votes.{position_of, ballot_of, NoneAbove, IsTaken, IsPromised, IsBest}
 use Rattle.ms_record.specs.Ballots.{IsBelow, IsAtMost}
 use Rattle.ms_replay.specs.Acceptors.{IsGreatestBallot, IsTop, IsAcceptorOf, PromisesNext, TakesNext}
 use Rattle.ms_replay.proofs.BallotOrder.{at_most_trans, not_above, below_at_most}
-use Rattle.ms_replay.proofs.Growing.{SameBelow, same_grown, same_back, taken_same, none_above_same, best_same}
+use Rattle.ms_replay.proofs.Growing.{SameBelow, same_grown, same_back, taken_same, none_above_same}
 
 pub slice_get-pushed : (xs : List Record) (r : Record) → slice_get (xs ++ r ∷ []) (length xs) ≡ Some r
 slice_get-pushed [] r = refl

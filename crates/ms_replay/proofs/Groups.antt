@@ -1,5 +1,5 @@
 -- Votes in order, in groups of one text.
-use Rattle.std.proofs.Common.{◌≡◌, ◌≢◌, ℕ, zero, suc, ◌+◌, ◌-◌, ◌*◌, ◌<◌, ◌≤◌, Bool, true, false, ◌&&◌, List, [], ◌∷◌, ◌++◌, Option, Some, None, ◌⊎◌, inl, inr, refl, sym, ap, ◌∙◌, subst, slice_get, length, take, drop, get_or, count_by, arith}
+use Rattle.std.proofs.Common.{◌≡◌, ◌≢◌, ℕ, ◌+◌, ◌-◌, ◌<◌, ◌≤◌, Bool, true, false, ◌&&◌, List, [], ◌∷◌, ◌++◌, Option, Some, None, ◌⊎◌, inl, inr, refl, sym, ap, ◌∙◌, subst, slice_get, length, take, drop, get_or, count_by, arith}
 use Rattle.std.specs.Prelude.{bytes_eq, ◌==◌}
 use Rattle.std.specs.declared.cmp.Ordering.{Ordering}
 use Rattle.std.specs.declared.cmp.Ordering.TheVariants.{Less, Equal, Greater}
@@ -14,19 +14,18 @@ use Rattle.std.proofs.lemmas.Option.{slice_get_within, slice_get-get_or}
 use Rattle.ms_record.specs.declared.ballot.Ballot.{Ballot}
 use Rattle.ms_record.specs.declared.ballot.Vote.{Vote}
 use Rattle.ms_record.specs.declared.entry.Entry.{Entry}
-use Rattle.ms_record.specs.declared.record.Record.{Record}
 use Rattle.ms_record.specs.declared.record.Record.TheVariants.{Accept}
 use Rattle.ms_record.specs.Ballots.{IsAtMost}
 use Rattle.ms_record.specs.Entries.{entry_text}
 use Rattle.ms_record.specs.Reading.{record_at}
 use Rattle.ms_record.specs.Records.{record_text, ballot_text}
-use Rattle.ms_record.specs.Votes.{position_of, ballot_of, services_below}
+use Rattle.ms_record.specs.Votes.{services_below}
 use Rattle.ms_replay.specs.declared.voted.Voted.{Voted}
 use Rattle.ms_replay.specs.Standings.{Differs, IsGiven, IsNoLater, IsTextAtMost}
 use Rattle.ms_replay.specs.Tallies.{IsVote, vote_cmp}
-use Rattle.ms_replay.specs.Winners.{AreHere, IsGroup, has_voted, has_text, HasMajority, IsWinner, IsFirstWinner, IsGreatestHere}
+use Rattle.ms_replay.specs.Winners.{AreHere, IsGroup, has_voted, has_text, HasMajority, IsFirstWinner, IsGreatestHere}
 use Rattle.ms_replay.proofs.BallotOrder.{same_ballot}
-use Rattle.ms_replay.proofs.VoteOrder.{IsNotBefore, not_before}
+use Rattle.ms_replay.proofs.VoteOrder.{not_before}
 use Rattle.ms_replay.proofs.Places.{place_take, take_place, drop_place, any_at, at_any, bool_same, and_true, count_congr}
 
 -- what a vote's text reads as

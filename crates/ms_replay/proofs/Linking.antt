@@ -1,11 +1,11 @@
 -- Chains: a linked list goes on, and one that cannot go on is the longest.
-use Rattle.std.proofs.Common.{◌≡◌, ℕ, zero, suc, false, ◌+◌, ◌<◌, ◌≤◌, List, [], ◌∷◌, ◌++◌, Option, Some, None, inl, inr, refl, sym, ap, ◌∙◌, subst, slice_get, length, take, get_or, arith}
+use Rattle.std.proofs.Common.{◌≡◌, ℕ, zero, suc, false, ◌+◌, ◌<◌, List, [], ◌∷◌, ◌++◌, Some, None, inl, inr, refl, sym, ap, ◌∙◌, subst, slice_get, length, take, get_or, arith}
 use Rattle.std.proofs.lemmas.Bool.{cases_lt}
 use Rattle.std.proofs.lemmas.List.{same_lists, length-take-le, get_or-take, take-append-le, take_at, length_push}
-use Rattle.std.proofs.lemmas.Option.{slice_get-get_or, slice_get_within}
+use Rattle.std.proofs.lemmas.Option.{slice_get-get_or}
 use Rattle.ms_record.specs.declared.entry.Entry.{Entry}
 use Rattle.ms_record.specs.declared.record.Record.{Record}
-use Rattle.ms_record.specs.Chains.{Origin, LinksOn, IsLinked, IsChain, IsChosen, AgreesAt, all_services, last_name, generation_in, generation_after}
+use Rattle.ms_record.specs.Chains.{Origin, LinksOn, IsLinked, IsChain, all_services, last_name, generation_in, generation_after}
 use Rattle.ms_record.specs.Entries.{name_of}
 use Rattle.ms_record.specs.Votes.{ChosenBy, services_below}
 use Rattle.ms_replay.specs.declared.audit.Growing.{Growing}

@@ -1,6 +1,5 @@
 -- The votes of one position among votes in order.
-use Rattle.std.proofs.Common.{◌≡◌, ℕ, ◌+◌, ◌-◌, ◌<◌, ◌≤◌, Bool, true, false, List, Some, inl, inr, refl, sym, ap, ◌∙◌, subst, slice_get, length, take, drop, get_or, ltb, leb, arith, length-drop}
-use Rattle.std.specs.Ordering.{is_lt}
+use Rattle.std.proofs.Common.{◌≡◌, ℕ, ◌+◌, ◌-◌, ◌<◌, ◌≤◌, true, false, List, Some, inl, inr, sym, ap, ◌∙◌, subst, slice_get, length, take, drop, get_or, ltb, leb, arith}
 use Rattle.std.specs.List.Sorted.{IsNonDecreasingBy, IsPartitionPoint}
 use Rattle.std.proofs.lemmas.Bool.{cases_lt}
 use Rattle.std.proofs.lemmas.Bool.Decides.{nat_tests}
@@ -8,7 +7,7 @@ use Rattle.std.proofs.lemmas.List.{take_rest}
 use Rattle.std.proofs.lemmas.List.Sorted.{IsNonDecreasingBy-drop}
 use Rattle.std.proofs.lemmas.Option.{slice_get_within, slice_get-get_or, get_or_from_slice_get}
 use Rattle.ms_replay.specs.declared.voted.Voted.{Voted}
-use Rattle.ms_replay.specs.Tallies.{AreSorted, AreVotes, vote_cmp}
+use Rattle.ms_replay.specs.Tallies.{AreSorted, AreVotes}
 use Rattle.ms_replay.specs.Winners.{IsPartAt, AreHere}
 use Rattle.ms_replay.proofs.VoteOrder.{in_order, not_before}
 use Rattle.ms_replay.proofs.Places.{place_take, take_place, drop_place}

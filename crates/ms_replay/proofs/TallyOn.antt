@@ -1,5 +1,5 @@
 -- A tally goes on by more of a service's list.
-use Rattle.std.proofs.Common.{◌≡◌, ℕ, ◌+◌, ◌<◌, Bool, true, false, cond, List, [], ◌∷◌, ◌++◌, Some, inl, inr, refl, sym, ap, ◌∙◌, subst, slice_get, length, get_or, set, eqb, take, arith, get_or-set_same, get_or-set_other, ◌≢◌}
+use Rattle.std.proofs.Common.{◌≡◌, ℕ, ◌+◌, ◌<◌, Bool, true, false, cond, List, [], ◌∷◌, ◌++◌, inl, inr, sym, ap, ◌∙◌, subst, slice_get, length, get_or, set, eqb, take, arith, get_or-set_same, get_or-set_other}
 use Rattle.std.specs.List.Sorted.{IsPermutation}
 use Rattle.std.proofs.Math.Seq.{get_or-append_seam}
 use Rattle.std.proofs.lemmas.Bool.{cases_lt, cases_eq}
@@ -10,7 +10,7 @@ use Rattle.ms_record.specs.declared.ballot.Ballot.{Ballot}
 use Rattle.ms_record.specs.declared.record.Record.{Record}
 use Rattle.ms_replay.specs.declared.voted.Voted.{Voted}
 use Rattle.ms_replay.specs.Audits.{lists_of}
-use Rattle.ms_replay.specs.Tallies.{TallyView, AreVotes, AreKnown, HasVote, IsReadOf, IsTallyOf, AddsVotes, goes_on}
+use Rattle.ms_replay.specs.Tallies.{TallyView, AreVotes, AreKnown, IsReadOf, IsTallyOf, AddsVotes, goes_on}
 use Rattle.ms_replay.proofs.Places.{place_cases}
 use Rattle.ms_replay.proofs.VoteOrder.{moved}
 use Rattle.ms_replay.proofs.ReadingOn.{read_other}

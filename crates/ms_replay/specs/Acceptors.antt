@@ -3,7 +3,6 @@ use Rattle.std.specs.Prelude.{◌≡◌, ◌≢◌, ℕ, List, [], ◌∷◌, �
 use Rattle.ms_record.specs.declared.ballot.Ballot.{Ballot}
 use Rattle.ms_record.specs.declared.entry.Entry.{Entry}
 use Rattle.ms_record.specs.declared.record.Record.{Record}
-use Rattle.ms_record.specs.declared.record.Record.TheVariants.{Prepare, Accept}
 use Rattle.ms_record.specs.Ballots.{IsBelow}
 use Rattle.ms_record.specs.Votes.{position_of, ballot_of, NoneAbove, IsPromised, IsTaken, IsBest}
 use Rattle.ms_replay.specs.declared.acceptor.Acceptor.{Acceptor}

@@ -1,6 +1,5 @@
 -- A tally's fields: the greatest ballots of each service, and votes in order.
-use Rattle.std.specs.Prelude.{◌≡◌, ℕ, List, map, length}
-use Rattle.ms_record.specs.declared.ballot.Ballot.{Ballot}
+use Rattle.std.specs.Prelude.{◌≡◌, map, length}
 use Rattle.ms_replay.specs.declared.tally.Tally.TheInside.{Inside}
 use Rattle.ms_replay.specs.Tallies.{TallyView, AreSorted, AreVotes, AreKnown}
 

@@ -1,5 +1,5 @@
 -- What votes in order show at a position.
-use Rattle.std.specs.Prelude.{◌≡◌, ◌≢◌, ℕ, ◌+◌, ◌*◌, ◌<◌, ◌≤◌, ◌==◌, ◌&&◌, Bool, false, List, Option, Some, None, slice_get, length, count_by, bytes_eq}
+use Rattle.std.specs.Prelude.{◌≡◌, ◌≢◌, ℕ, ◌+◌, ◌*◌, ◌<◌, ◌≤◌, ◌==◌, ◌&&◌, Bool, false, List, Option, Some, slice_get, length, count_by, bytes_eq}
 use Rattle.std.specs.Ordering.{nat_cmp, is_lt}
 use Rattle.std.specs.Cmp.Lexicographic.{slice_cmp}
 use Rattle.std.specs.List.{list_any}
@@ -12,7 +12,7 @@ use Rattle.ms_record.specs.Reading.{record_at}
 use Rattle.ms_record.specs.Votes.{services_below}
 use Rattle.ms_replay.specs.declared.voted.Voted.{Voted}
 use Rattle.ms_replay.specs.declared.standing.Standing.{Standing}
-use Rattle.ms_replay.specs.declared.standing.Standing.TheVariants.{Unseen, Seen, Chosen, Split}
+use Rattle.ms_replay.specs.declared.standing.Standing.TheVariants.{Chosen, Split}
 use Rattle.ms_replay.specs.Standings.{Differs, IsNoLater}
 use Rattle.ms_replay.specs.Tallies.{IsVote, vote_cmp}
 

@@ -13,3 +13,6 @@ pub use audit::{Audit, audit_dump};
 pub use dump::{Dump, Lists, read_dump};
 pub use standing::Standing;
 pub use tally::Tally;
+
+#[cfg(test)]
+mod tests;

@@ -1,4 +1,4 @@
-use Rattle.std.proofs.Common.{◌≡◌, ℕ, List, sym, ap, subst}
+use Rattle.std.proofs.Common.{ℕ, List, subst}
 use Rattle.ms_record.specs.Chains.{IsChain, all_services}
 use Rattle.ms_replay.specs.Audits.{lists_of, origin_of, AllAgree}
 use Rattle.ms_replay.specs.Tallies.{IsTallyOf}

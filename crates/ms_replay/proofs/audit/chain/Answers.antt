@@ -1,8 +1,5 @@
-use Rattle.std.proofs.Common.{◌≡◌, ℕ, ◌+◌, ◌≤◌, List, Bool, length, arith, sym, ap, refl, ◌∙◌, subst}
+use Rattle.std.proofs.Common.{◌+◌, List, Bool, length, arith, ap, refl, subst}
 use Rattle.ms_record.specs.declared.entry.Entry.{Entry}
-use Rattle.ms_record.specs.Votes.{ChosenBy, services_below}
-use Rattle.ms_record.specs.Chains.{IsChain, all_services}
-use Rattle.ms_replay.specs.declared.audit.Growing.{Growing}
 use Rattle.ms_replay.specs.Audits.{origin_of}
 use Rattle.ms_replay.specs.Steps.{StepsTo}
 use Rattle.ms_replay.proofs.Agreeing.{none_past}

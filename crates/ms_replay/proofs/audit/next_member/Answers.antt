@@ -1,4 +1,4 @@
-use Rattle.std.proofs.Common.{◌≡◌, ℕ, ◌∙◌, sym, subst}
+use Rattle.std.proofs.Common.{ℕ, sym, subst}
 use Rattle.ms_record.specs.declared.entry.Entry.{Entry}
 use Rattle.ms_record.specs.Chains.{LinksOn}
 use Rattle.ms_replay.proofs.Agreeing.{none_unless}

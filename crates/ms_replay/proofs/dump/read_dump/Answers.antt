@@ -1,4 +1,4 @@
-use Rattle.std.proofs.Common.{◌≡◌, subst, None, Err, Result}
+use Rattle.std.proofs.Common.{subst, None, Result}
 use Rattle.ms_record.specs.declared.refusal.Refusal.{Refusal}
 use Rattle.ms_text.specs.Lines.{lines_of}
 use Rattle.ms_text.proofs.FirstWrong.{first_wrong}

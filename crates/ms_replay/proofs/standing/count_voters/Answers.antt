@@ -1,4 +1,4 @@
-use Rattle.std.proofs.Common.{◌≡◌, ◌∙◌, sym, arith, ap}
+use Rattle.std.proofs.Common.{◌∙◌, sym, arith, ap}
 use Rattle.ms_replay.specs.Winners.{has_voted}
 use Rattle.ms_replay.proofs.Places.{count_push, one_if}
 use Rattle.ms_replay.proofs.standing.count_voters.Goals as goal

@@ -1,4 +1,4 @@
-use Rattle.std.proofs.Common.{◌≡◌, ◌∙◌, ◌<◌, sym, refl, arith, ap, length, Some, subst, slice_get}
+use Rattle.std.proofs.Common.{◌≡◌, sym, refl, arith, length, Some, subst, slice_get}
 use Rattle.std.proofs.lemmas.Option.{slice_get_read, slice_get_within}
 use Rattle.ms_record.specs.declared.entry.Entry.{Entry}
 use Rattle.ms_replay.specs.Standings.{IsGiven}

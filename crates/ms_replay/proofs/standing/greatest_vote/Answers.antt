@@ -1,4 +1,4 @@
-use Rattle.std.proofs.Common.{◌≡◌, ◌∙◌, sym, refl, length, Some, slice_get}
+use Rattle.std.proofs.Common.{◌≡◌, sym, refl, length, Some, slice_get}
 use Rattle.std.proofs.lemmas.Option.{slice_get_read}
 use Rattle.ms_replay.proofs.Groups.{greatest_here, of_last}
 use Rattle.ms_replay.proofs.standing.greatest_vote.Goals as goal

@@ -1,6 +1,6 @@
-use Rattle.std.proofs.Common.{◌≡◌, ℕ, rules, ltb, leb}
+use Rattle.std.proofs.Common.{rules, ltb, leb}
 use Rattle.std.proofs.lemmas.List.{take_rest}
-use Rattle.std.proofs.lemmas.List.Sorted.{IsPartitionedBy-ltb, IsPartitionedBy-leb, IsNonDecreasingBy-drop, IsPartitionPoint-from_clause}
+use Rattle.std.proofs.lemmas.List.Sorted.{IsPartitionedBy-ltb, IsPartitionedBy-leb, IsPartitionPoint-from_clause}
 use Rattle.ms_replay.specs.declared.voted.Voted.{Voted}
 use Rattle.ms_replay.proofs.Parts.{positions_rise, part_at, rest_rises}
 use Rattle.ms_replay.proofs.standing.votes_at.Goals as goal

@@ -1,4 +1,4 @@
-use Rattle.std.proofs.Common.{◌≡◌, ◌++◌, take}
+use Rattle.std.proofs.Common.{◌++◌, take}
 use Rattle.ms_record.specs.Reading.{votes_of}
 use Rattle.ms_replay.proofs.ReadingOn.{adds_on, list_more}
 use Rattle.ms_replay.proofs.voted.read_list.Goals as goal

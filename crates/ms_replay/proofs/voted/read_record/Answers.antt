@@ -1,4 +1,4 @@
-use Rattle.std.proofs.Common.{◌≡◌, sym, ap, ◌∙◌, Some, refl, subst}
+use Rattle.std.proofs.Common.{sym, ap, ◌∙◌, refl, subst}
 use Rattle.ms_record.specs.declared.ballot.Ballot.{Ballot}
 use Rattle.ms_record.specs.Ballots.{IsBelow}
 use Rattle.ms_replay.specs.Tallies.{top_at}

@@ -1,9 +1,9 @@
-use Rattle.std.proofs.Common.{◌≡◌, rules}
+use Rattle.std.proofs.Common.{rules}
 use Rattle.std.specs.Ordering.{is_lt}
 use Rattle.std.proofs.lemmas.List.Sorted.{ranks_by, answers_always}
 use Rattle.ms_replay.specs.declared.voted.Voted.{Voted}
 use Rattle.ms_replay.specs.Tallies.{vote_cmp}
-use Rattle.ms_replay.proofs.VoteOrder.{vote_total, moved, in_order, not_before}
+use Rattle.ms_replay.proofs.VoteOrder.{vote_total}
 use Rattle.ms_replay.proofs.voted.sort_votes.Goals as goal
 
 pub returns-clause-sorted : goal.returns-clause-sorted

@@ -1,4 +1,4 @@
-use Rattle.std.proofs.Common.{◌≡◌, sym, ap, ◌∙◌, Some, subst}
+use Rattle.std.proofs.Common.{sym, ◌∙◌, subst}
 use Rattle.ms_record.specs.declared.ballot.Ballot.{Ballot}
 use Rattle.ms_record.specs.Ballots.{IsBelow}
 use Rattle.ms_replay.proofs.Feeding.{fed_elsewhere, fed_outbid, goes_on_prepare, goes_on_accept, prepare_is, accept_is}

@@ -1,4 +1,4 @@
-use Rattle.std.proofs.Common.{◌≡◌, sym, ap, ◌∙◌, ◌++◌, subst, refl, List, ℕ, ◌<◌, [], length, take, get_or, map, set, arith, vec_len}
+use Rattle.std.proofs.Common.{◌≡◌, sym, ap, ◌∙◌, subst, List, ℕ, ◌<◌, [], length, get_or, arith}
 use Rattle.std.proofs.lemmas.Grind.{common_steps}
 use Rattle.std.proofs.lemmas.List.{length-set, length-map, map-set, get_or-map}
 use Rattle.std.specs.declared.collections.BTreeMap.{BTreeMap}

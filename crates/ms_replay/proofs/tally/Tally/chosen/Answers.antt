@@ -1,4 +1,4 @@
-use Rattle.std.proofs.Common.{◌≡◌, List, sym, subst}
+use Rattle.std.proofs.Common.{List, sym, subst}
 use Rattle.ms_record.specs.Votes.{services_below}
 use Rattle.ms_replay.specs.declared.standing.Standing.TheVariants.{Unseen, Seen}
 use Rattle.ms_replay.specs.declared.voted.Voted.{Voted}

@@ -1,4 +1,4 @@
-use Rattle.std.proofs.Common.{◌≡◌, ℕ, [], map, replicate, length}
+use Rattle.std.proofs.Common.{◌≡◌, [], map, replicate}
 use Rattle.ms_replay.proofs.tally.Tally.new.Given as goal
 
 abbrev pub invariant-loop : goal.invariant-loop

@@ -1,13 +1,12 @@
-use Rattle.std.proofs.Common.{◌≡◌, ℕ, ◌<◌, ◌+◌, ◌++◌, ◌∷◌, List, Some, [], sym, ap, refl, ◌∙◌, subst, slice_get, length, get_or, map, arith}
+use Rattle.std.proofs.Common.{◌≡◌, ℕ, ◌<◌, ◌+◌, ◌++◌, ◌∷◌, List, [], sym, ap, refl, ◌∙◌, subst, length, get_or, map, arith}
 use Rattle.std.proofs.lemmas.List.{map-append, length_push, length-map}
 use Rattle.std.proofs.lemmas.Option.{slice_get_read, get_or_from_slice_get}
 use Rattle.std.specs.declared.collections.BTreeMap.{BTreeMap}
 use Rattle.std.specs.declared.alloc.Global.{Global}
 use Rattle.ms_record.specs.declared.ballot.Ballot.{Ballot}
 use Rattle.ms_record.specs.Reading.{votes_of}
-use Rattle.ms_replay.specs.declared.voted.Voted.{Voted}
 use Rattle.ms_replay.specs.Audits.{lists_of}
-use Rattle.ms_replay.specs.Tallies.{IsReadOf, AreVotes, AreKnown}
+use Rattle.ms_replay.specs.Tallies.{IsReadOf, AreKnown}
 use Rattle.ms_replay.proofs.ReadingOn.{fresh_read}
 use Rattle.ms_replay.proofs.TallyOn.{one_more_list, known_more, votes_added, votes_moved, known_moved, read_moved}
 use Rattle.ms_replay.proofs.tally.Tally.of_lists.Goals as goal

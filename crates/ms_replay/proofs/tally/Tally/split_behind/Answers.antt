@@ -1,4 +1,3 @@
-use Rattle.std.proofs.Common.{◌≡◌, ◌∙◌, sym}
 use Rattle.ms_replay.proofs.Agreeing.{agrees_unless}
 use Rattle.ms_replay.proofs.tally.Tally.split_behind.Goals as goal
 
