@@ -1,7 +1,12 @@
+mod Agreement
+mod BallotOrder
+mod ChainLaws
 mod EntryLaws
 mod Feeding
 mod FieldLaws
 mod Filling
+mod Growing
+mod Majorities
 mod PlanLaws
 mod PlanRules
 mod RecordLaws

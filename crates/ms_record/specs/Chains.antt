@@ -1,5 +1,5 @@
 -- The chain of masters: each member is chosen at its position and links on to the members before it.
-use Rattle.std.specs.Prelude.{◌≡◌, ℕ, ◌+◌, ◌<◌, ◌≤◌, List, [], ◌∷◌, Option, Some, None, IfSome, length, slice_get, take}
+use Rattle.std.specs.Prelude.{◌≡◌, ℕ, ◌+◌, ◌<◌, ◌≤◌, List, [], ◌∷◌, ◌++◌, Option, Some, None, IfSome, length, slice_get, take}
 use Rattle.ms_record.specs.declared.entry.Entry.{Entry}
 use Rattle.ms_record.specs.declared.plan.PlanRow.{PlanRow}
 use Rattle.ms_record.specs.declared.record.Record.{Record}
@@ -63,3 +63,22 @@ pub record IsChosen (votes : ℕ → List Record) (services position : ℕ) (e :
 -- two chosen entries at one position are one
 abbrev pub AgreesAt : (ℕ → List Record) → ℕ → ℕ → Type 0
 AgreesAt votes services position = (e f : Entry) → IsChosen votes services position e → IsChosen votes services position f → e ≡ f
+
+-- at each position two chosen entries are one
+abbrev pub Agrees : (ℕ → List Record) → ℕ → Type 0
+Agrees votes services = (k : ℕ) → AgreesAt votes services k
+
+-- the entry links on to a linked list that ends before this position
+pub record IsNext (votes : ℕ → List Record) (origin : Origin) (position : ℕ) (e : Entry) : Type 0 where
+  pub members : List Entry
+  pub linked : IsLinked votes (all_services origin.services) origin members
+  pub at : position ≡ length members + 1
+  pub links : LinksOn (last_name origin.name members) (generation_in origin.generation members) origin.services e
+
+-- each chosen entry links on to the members before it
+abbrev pub AllNext : (ℕ → List Record) → Origin → Type 0
+AllNext votes origin = (k : ℕ) (e : Entry) → IsChosen votes origin.services k e → IsNext votes origin k e
+
+-- one list begins the other
+abbrev pub Begins : List Entry → List Entry → Type 0
+Begins xs ys = (more : List Entry) × (xs ++ more ≡ ys)

@@ -9,4 +9,7 @@ pub mod Records
 pub mod Fields
 pub mod Reading
 pub mod Votes
+pub mod Offers
 pub mod Chains
+pub mod Logs
+pub mod Settings

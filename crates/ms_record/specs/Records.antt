@@ -25,7 +25,11 @@ IsRecord (Accept k b e) = IsPosition k × IsBallot b × IsEntry e
 abbrev pub ballot_text : Ballot → List ℕ
 ballot_text b = to_be_bytes w32 b.round ++ to_be_bytes w32 b.client.0
 
+-- the tag, the position, round and client
+abbrev pub head_text : ℕ → ℕ → Ballot → List ℕ
+head_text tag k b = tag ∷ [] ++ to_be_bytes w32 k ++ ballot_text b
+
 -- `P` or `A`, the position, round and client, and the entry that is to be accepted
 abbrev pub record_text : Record → List ℕ
-record_text (Prepare k b) = 80 ∷ [] ++ to_be_bytes w32 k ++ ballot_text b
-record_text (Accept k b e) = 65 ∷ [] ++ to_be_bytes w32 k ++ ballot_text b ++ entry_text e
+record_text (Prepare k b) = head_text 80 k b
+record_text (Accept k b e) = head_text 65 k b ++ entry_text e

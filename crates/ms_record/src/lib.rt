@@ -4,16 +4,23 @@
 pub mod ballot;
 pub mod entry;
 mod fields;
+pub mod law;
+pub mod log;
 pub mod plan;
 mod reading;
 pub mod record;
 pub mod refusal;
+pub mod setting;
+pub mod writing;
 
 pub use ballot::{Ballot, Vote};
 pub use entry::{Entries, Entry, entry_name, links_on, parse_entry};
+pub use log::{ListId, LogEvent};
 pub use plan::{Plan, PlanRow};
 pub use record::{Record, parse_record};
-pub use refusal::{Place, Refusal};
+pub use refusal::{Place, Refusal, Why};
+pub use setting::Setting;
+pub use writing::{write_entry, write_record};
 
 #[cfg(test)]
 mod tests;

@@ -16,6 +16,27 @@ pub enum Place {
     Keep,
 }
 
+/// The condition of an event that fails: `docs/FORMATS.md`, drill.
+#[derive(Clone, Copy, Debug, PartialEq, Eq)]
+pub enum Why {
+    Client,
+    On,
+    Off,
+    Position,
+    Round,
+    Placed,
+    Plan,
+    Request,
+    Service,
+    Prefix,
+    Bid,
+    Promises,
+    Nothing,
+    Chosen,
+    Generation,
+    Turned,
+}
+
 /// Why a call gave no answer. `docs/FORMATS.md` has the statuses and the texts.
 #[derive(Debug, Drop)]
 pub enum Refusal {
@@ -42,6 +63,11 @@ pub enum Refusal {
     Limit {
         what: Quantity,
         value: u64,
+    },
+    /// That condition of the event with this number, from 1, fails.
+    NotEnabled {
+        event: u64,
+        why: Why,
     },
 }
 

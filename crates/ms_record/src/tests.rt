@@ -2,6 +2,7 @@
 
 use crate::{
     Ballot, Entry, Plan, PlanRow, Record, entry_name, links_on, parse_entry, parse_record,
+    write_entry, write_record,
 };
 use ms_base::{ClientId, Name, ServiceId};
 use std::alloc::Global;
@@ -241,6 +242,49 @@ fn a_plan_entry_and_its_name(rt: HostRuntime) -> Result<(), Fail> {
         Some(entry_name(&entry)),
         name(b"b06ece859bf57ea6b2ef01db682ee0270c2fb63c8ea15a0d403db5f506206059")
     );
+    Ok(())
+}
+
+/// Whether these are the bytes of the digits.
+fn spells(alloc: Global, text: &[u8], digits: &[&str]) -> bool {
+    match bytes(alloc, digits) {
+        Ok(wanted) => text == wanted.as_slice(),
+        Err(_) => false,
+    }
+}
+
+#[test]
+fn records_and_entries_are_written(rt: HostRuntime) -> Result<(), Fail> {
+    let alloc = rt.alloc();
+    let mut out = Vec::new(alloc);
+    let prepare = Record::Prepare {
+        position: 1,
+        ballot: ballot(3, 0),
+    };
+    assert!(rt; write_record(&prepare, &mut out).is_ok());
+    assert!(rt; spells(alloc, &out, &["50000000010000000300000000"]));
+    let accept = Record::Accept {
+        position: 1,
+        ballot: ballot(1, 1),
+        entry: push(),
+    };
+    assert!(rt; write_record(&accept, &mut out).is_ok());
+    assert!(rt;
+        spells(
+            alloc,
+            &out,
+            &[
+                "50000000010000000300000000",
+                "41000000010000000100000001",
+                PUSH,
+                VERSION
+            ]
+        )
+    );
+    let mut out = Vec::new(alloc);
+    let entry = entry(alloc, &[PLAN_ENTRY, VERSION, PLAN, ROWS]).ok_or("a plan entry")?;
+    assert!(rt; write_entry(&entry, &mut out).is_ok());
+    assert!(rt; spells(alloc, &out, &[PLAN_ENTRY, VERSION, PLAN, ROWS]));
     Ok(())
 }
 
