@@ -1,0 +1,8 @@
+mod FieldLaws
+mod LabelLaws
+mod Many
+mod ObjectLaws
+mod Pushed
+mod RowLaws
+mod Sizes
+mod StoreLaws
