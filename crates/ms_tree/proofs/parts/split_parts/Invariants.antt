@@ -1,0 +1,13 @@
+use Rattle.std.proofs.Common.{length, ◌-◌, ◌≤◌, ℕ, map, take, drop}
+use Rattle.ms_tree.specs.Folders.{IsFolder, shown_from, shown_part}
+use Rattle.ms_tree.proofs.Runs.{AreGroups}
+use Rattle.ms_tree.proofs.parts.split_parts.Given as goal
+
+abbrev pub invariant-loop-start : goal.invariant-loop-start
+invariant-loop-start l = record {
+  within : l.start ≤ length l.files;
+  groups : (left : ℕ) → IsFolder left (shown_from l.skip l.files) → AreGroups (shown_from l.skip l.files) (take l.start (shown_from l.skip l.files)) (drop l.start (shown_from l.skip l.files)) (map (shown_part l.skip) l.parts.items);
+}
+
+abbrev pub decreases-loop-start : goal.decreases-loop-start
+decreases-loop-start l = length l.files - l.start

@@ -1,0 +1,73 @@
+//! The limits on files, and why a file is refused.
+
+ghost use Rattle.std.specs.Prelude.{◌≡◌};
+ghost use Rattle.ms_tree.specs.declared.limits.FilesError.TheVariants as errors;
+ghost use Rattle.ms_tree.specs.Limits.{within};
+
+use ms_base::{NoMemory, Quantity};
+use std::alloc::{AllocError, AllocFailed};
+
+/// The most bytes of a path.
+pub const MOST_PATH: u64 = 1_024;
+
+/// The most bytes of a part of a path.
+pub const MOST_PART: u64 = 200;
+
+/// The most parts of a path.
+pub const MOST_LEVELS: u64 = 64;
+
+/// The most bytes of a file.
+pub const MOST_FILE: u64 = 67_108_864;
+
+/// The most files.
+pub const MOST_FILES: u64 = 100_000;
+
+/// The most bytes of all files together.
+pub const MOST_TOTAL: u64 = 1_073_741_824;
+
+/// Why a file is refused.
+#[derive(Clone, Copy, Debug, PartialEq, Eq)]
+pub enum FilesError {
+    /// The path breaks the path rule.
+    BadPath,
+    /// A quantity would have this value, which passes its limit.
+    Limit { what: Quantity, value: u64 },
+    /// The path is a directory of another, or another is a directory of it.
+    Clash,
+    /// Memory ran out.
+    NoMemory,
+}
+
+impl From<NoMemory> for FilesError {
+    ghost from_gives = { λ _ e. e ≡ errors.NoMemory };
+
+    fn from(_error: NoMemory) -> FilesError {
+        FilesError::NoMemory
+    }
+}
+
+impl From<AllocError> for FilesError {
+    ghost from_gives = { λ _ e. e ≡ errors.NoMemory };
+
+    fn from(_error: AllocError) -> FilesError {
+        FilesError::NoMemory
+    }
+}
+
+impl<T: Drop> From<AllocFailed<T>> for FilesError {
+    ghost from_gives = { λ _ e. e ≡ errors.NoMemory };
+
+    fn from(_error: AllocFailed<T>) -> FilesError {
+        FilesError::NoMemory
+    }
+}
+
+/// Refuses a value above its limit.
+pub fn within(what: Quantity, value: u64, most: u64) -> Result<(), FilesError>
+    ensures { result ≡ within what value most }
+{
+    if value > most {
+        return Err(FilesError::Limit { what, value });
+    }
+    Ok(())
+}
