@@ -6,7 +6,7 @@ use Rattle.std.specs.Str.{IsUtf8}
 use Rattle.std.specs.declared.string.String.{String}
 use Rattle.std.specs.declared.alloc.Global.{Global}
 use Rattle.ms_words.specs.declared.command.Command.{Command}
-use Rattle.ms_words.specs.declared.command.Command.TheVariants.{Audit}
+use Rattle.ms_words.specs.declared.command.Command.TheVariants.{Audit, Drill, Hash}
 use Rattle.ms_words.specs.declared.command.WordsError.{WordsError}
 use Rattle.ms_words.specs.declared.command.WordsError.TheVariants as errors
 
@@ -24,6 +24,8 @@ one_file (file ∷ more ∷ rest) = None
 abbrev pub by_word : List ℕ → List (List ℕ) → Option Command
 by_word word rest =
     if bytes_eq word (codes "audit") then option_map Audit (one_file rest)
+    else if bytes_eq word (codes "drill") then option_map Drill (one_file rest)
+    else if bytes_eq word (codes "hash") then option_map Hash (one_file rest)
     else None
 
 unfoldable pub command_of : List (List ℕ) → Option Command
@@ -39,3 +41,5 @@ ReadsWords (Err errors.NoMemory) said = Unit {0}
 -- the names in a command are text
 abbrev pub IsText : Command → Type 0
 IsText (Audit file) = IsUtf8 file
+IsText (Drill file) = IsUtf8 file
+IsText (Hash file) = IsUtf8 file

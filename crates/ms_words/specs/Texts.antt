@@ -8,11 +8,13 @@ use Rattle.ms_record.specs.declared.entry.Entry.{Entry}
 use Rattle.ms_record.specs.declared.refusal.Place.{Place}
 use Rattle.ms_record.specs.declared.refusal.Place.TheVariants as places
 use Rattle.ms_record.specs.declared.refusal.Refusal.{Refusal}
-use Rattle.ms_record.specs.declared.refusal.Refusal.TheVariants.{Usage, BadInput, OutsideFault, NoMemory, Split, Limit}
+use Rattle.ms_record.specs.declared.refusal.Refusal.TheVariants.{Usage, BadInput, OutsideFault, NoMemory, Split, Limit, NotEnabled}
+use Rattle.ms_record.specs.declared.refusal.Why.{Why}
+use Rattle.ms_record.specs.declared.refusal.Why.TheVariants as whys
 use Rattle.ms_record.specs.Entries.{name_of}
 use Rattle.ms_record.specs.Plans.{PlanView}
 use Rattle.ms_words.specs.declared.report.Report.{Report}
-use Rattle.ms_words.specs.declared.report.Report.TheVariants.{Audit, Refused}
+use Rattle.ms_words.specs.declared.report.Report.TheVariants.{Audit, Drill, Hash, Refused}
 
 abbrev pub refusal_status : Refusal → ℕ
 refusal_status Usage = 1
@@ -21,10 +23,13 @@ refusal_status (OutsideFault place) = 3
 refusal_status NoMemory = 8
 refusal_status (Split position first second) = 10
 refusal_status (Limit what value) = 11
+refusal_status (NotEnabled event why) = 16
 
 abbrev pub status_of : Report → ℕ
 status_of (Refused refusal) = refusal_status refusal
 status_of (Audit genesis entries) = 0
+status_of (Drill genesis entries known) = 0
+status_of (Hash files objects root) = 0
 
 -- where a fault is
 abbrev pub place_word : Place → List ℕ
@@ -57,6 +62,25 @@ quantity_word quantities.Input = codes "input"
 quantity_word quantities.Events = codes "events"
 quantity_word quantities.Asked = codes "asked"
 
+-- the condition of an event that fails
+abbrev pub why_word : Why → List ℕ
+why_word whys.Client = codes "client"
+why_word whys.On = codes "on"
+why_word whys.Off = codes "off"
+why_word whys.Position = codes "position"
+why_word whys.Round = codes "round"
+why_word whys.Placed = codes "placed"
+why_word whys.Plan = codes "plan"
+why_word whys.Request = codes "request"
+why_word whys.Service = codes "service"
+why_word whys.Prefix = codes "prefix"
+why_word whys.Bid = codes "bid"
+why_word whys.Promises = codes "promises"
+why_word whys.Nothing = codes "nothing"
+why_word whys.Chosen = codes "chosen"
+why_word whys.Generation = codes "generation"
+why_word whys.Turned = codes "turned"
+
 unfoldable pub kind_word : Option PlanView → List ℕ
 kind_word None = codes " push "
 kind_word (Some plan) = codes " plan "
@@ -83,14 +107,34 @@ unfoldable pub audit_text : List ℕ → List Entry → List ℕ
 audit_text genesis entries =
     codes "0 " ++ encode_lower genesis ++ codes "\n" ++ member_lines 1 entries ++ codes "end " ++ decimal (length entries) ++ codes "\n"
 
+-- `client C knows K`
+unfoldable pub known_line : ℕ → ℕ → List ℕ
+known_line client k = codes "client " ++ decimal client ++ codes " knows " ++ decimal k ++ codes "\n"
+
+-- the position that each client knows, by number
+abbrev pub known_lines : ℕ → List ℕ → List ℕ
+known_lines client [] = []
+known_lines client (k ∷ ks) = known_line client k ++ known_lines (client + 1) ks
+
+-- the chain, and what each client knows
+unfoldable pub drill_text : List ℕ → List Entry → List ℕ → List ℕ
+drill_text genesis entries known = audit_text genesis entries ++ known_lines 0 known
+
+-- the number of files and of objects, and the root
+unfoldable pub hash_text : ℕ → ℕ → List ℕ → List ℕ
+hash_text files objects root = codes "files " ++ decimal files ++ codes "\nobjects " ++ decimal objects ++ codes "\nroot " ++ encode_lower root ++ codes "\n"
+
 unfoldable pub refusal_text : Refusal → List ℕ
 refusal_text Usage = codes "usage\n"
 refusal_text (BadInput place line) = codes "bad " ++ text_word place ++ codes " " ++ decimal line ++ codes "\n"
 refusal_text (OutsideFault place) = codes "fault " ++ place_word place ++ codes "\n"
 refusal_text NoMemory = codes "no memory\n"
 refusal_text (Split position first second) = codes "split " ++ decimal position ++ codes " " ++ encode_lower first.0 ++ codes " " ++ encode_lower second.0 ++ codes "\n"
+refusal_text (NotEnabled event why) = codes "event " ++ decimal event ++ codes " " ++ why_word why ++ codes "\n"
 refusal_text (Limit what value) = codes "limit " ++ quantity_word what ++ codes " " ++ decimal value ++ codes "\n"
 
 abbrev pub text_of : Report → List ℕ
 text_of (Audit genesis entries) = audit_text genesis.0 entries
+text_of (Drill genesis entries known) = drill_text genesis.0 entries known
+text_of (Hash files objects root) = hash_text files objects root.0
 text_of (Refused refusal) = refusal_text refusal

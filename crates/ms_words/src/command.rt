@@ -5,6 +5,7 @@ ghost use Rattle.std.specs.Str.{IsUtf8};
 ghost use Rattle.std.specs.Option.{option_map};
 ghost use Rattle.ms_words.specs.Commands.{ReadsWords, word_texts, command_of, one_file, IsText};
 ghost use Rattle.ms_words.specs.declared.command.Command.{Command};
+ghost use Rattle.ms_words.specs.declared.command.Command.TheVariants as commands;
 ghost use Rattle.ms_words.specs.declared.command.WordsError.TheVariants as errors;
 
 use ms_base::{Bytes, NoMemory};
@@ -14,6 +15,8 @@ use std::alloc::Global;
 #[derive(Drop)]
 pub enum Command {
     Audit { file: Bytes },
+    Drill { file: Bytes },
+    Hash { file: Bytes },
 }
 
 /// Why words are no command.
@@ -41,15 +44,47 @@ pub fn read_words(alloc: Global, words: &[String]) -> Result<Command, WordsError
     match words {
         [] => Err(WordsError::Usage),
         [word, rest @ ..] => {
-            if word.as_str() == "audit" {
-                match one_file(alloc, rest) {
-                    Ok(file) => Ok(Command::Audit { file }),
-                    Err(error) => Err(error),
-                }
+            let word = word.as_str();
+            if word == "audit" {
+                read_audit(alloc, rest)
+            } else if word == "drill" {
+                read_drill(alloc, rest)
+            } else if word == "hash" {
+                read_hash(alloc, rest)
             } else {
                 Err(WordsError::Usage)
             }
         }
+    }
+}
+
+fn read_audit(alloc: Global, words: &[String]) -> Result<Command, WordsError>
+    ensures exact { ReadsWords result (option_map commands.Audit (one_file (word_texts words.now))) }
+    ensures text { IfOk result IsText }
+{
+    match one_file(alloc, words) {
+        Ok(file) => Ok(Command::Audit { file }),
+        Err(error) => Err(error),
+    }
+}
+
+fn read_drill(alloc: Global, words: &[String]) -> Result<Command, WordsError>
+    ensures exact { ReadsWords result (option_map commands.Drill (one_file (word_texts words.now))) }
+    ensures text { IfOk result IsText }
+{
+    match one_file(alloc, words) {
+        Ok(file) => Ok(Command::Drill { file }),
+        Err(error) => Err(error),
+    }
+}
+
+fn read_hash(alloc: Global, words: &[String]) -> Result<Command, WordsError>
+    ensures exact { ReadsWords result (option_map commands.Hash (one_file (word_texts words.now))) }
+    ensures text { IfOk result IsText }
+{
+    match one_file(alloc, words) {
+        Ok(file) => Ok(Command::Hash { file }),
+        Err(error) => Err(error),
     }
 }
 

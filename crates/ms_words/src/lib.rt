@@ -6,7 +6,7 @@ pub mod lines;
 pub mod report;
 
 pub use command::{Command, WordsError, read_words};
-pub use report::{Report, print_report, status};
+pub use report::{Known, Report, print_report, status};
 
 #[cfg(test)]
 mod tests;

@@ -3,10 +3,10 @@
 ghost use Rattle.std.specs.Prelude.{◌≡◌, ◌++◌, OnOk};
 ghost use Rattle.hex.specs.Hex.{encode_lower};
 ghost use Rattle.ms_record.specs.Entries.{name_of};
-ghost use Rattle.ms_words.specs.Texts.{text_word, place_word, quantity_word, kind_word, generation_word, author_text, member_line, member_lines, audit_text, refusal_text};
+ghost use Rattle.ms_words.specs.Texts.{text_word, place_word, quantity_word, kind_word, generation_word, author_text, member_line, member_lines, audit_text, drill_text, hash_text, known_line, known_lines, why_word, refusal_text};
 
 use ms_base::{Name, NoMemory, Quantity};
-use ms_record::{Entry, Place, Refusal, entry_name};
+use ms_record::{Entry, Place, Refusal, Why, entry_name};
 use ms_text::{push_name, push_number, push_text};
 
 fn push_place(out: &mut Vec<u8>, place: Place) -> Result<(), NoMemory>
@@ -134,6 +134,59 @@ pub(crate) fn push_audit(
     push_text(out, b"\n")
 }
 
+#[tactic(auto, unfolding(crate::specs::Texts::known_line))]
+fn push_known_line(out: &mut Vec<u8>, client: u64, position: u32) -> Result<(), NoMemory>
+    ensures { OnOk result (out.new.items ≡ out.old.items ++ known_line client position) }
+{
+    push_text(out, b"client ")?;
+    push_number(out, client)?;
+    push_text(out, b" knows ")?;
+    push_number(out, u64::from(position))?;
+    push_text(out, b"\n")
+}
+
+fn push_known(out: &mut Vec<u8>, known: &[u32]) -> Result<(), NoMemory>
+    ensures { OnOk result (out.new.items ≡ out.old.items ++ known_lines 0 known.now) }
+{
+    for i in 0..known.len() {
+        push_known_line(out, i as u64, known[i])?;
+    }
+    Ok(())
+}
+
+/// The lines of a drill: the chain, and what each client knows.
+#[tactic(auto, unfolding(crate::specs::Texts::drill_text))]
+pub(crate) fn push_drill(
+    out: &mut Vec<u8>,
+    genesis: &Name,
+    entries: &[Entry],
+    known: &[u32],
+) -> Result<(), NoMemory>
+    ensures { OnOk result (out.new.items ≡ out.old.items ++ drill_text genesis.now.0 entries.now known.now) }
+{
+    push_audit(out, genesis, entries)?;
+    push_known(out, known)
+}
+
+/// The lines of a tree.
+#[tactic(auto, unfolding(crate::specs::Texts::hash_text))]
+pub(crate) fn push_hash(
+    out: &mut Vec<u8>,
+    files: u32,
+    objects: u64,
+    root: &Name,
+) -> Result<(), NoMemory>
+    ensures { OnOk result (out.new.items ≡ out.old.items ++ hash_text files objects root.now.0) }
+{
+    push_text(out, b"files ")?;
+    push_number(out, u64::from(files))?;
+    push_text(out, b"\nobjects ")?;
+    push_number(out, objects)?;
+    push_text(out, b"\nroot ")?;
+    push_name(out, &root.0)?;
+    push_text(out, b"\n")
+}
+
 #[tactic(auto, unfolding(crate::specs::Texts::refusal_text))]
 fn push_split(out: &mut Vec<u8>, position: u32, first: &Name, second: &Name) -> Result<(), NoMemory>
     ensures { OnOk result (out.new.items ≡ out.old.items ++ refusal_text (Refusal.Split position first.now second.now)) }
@@ -178,6 +231,40 @@ fn push_fault(out: &mut Vec<u8>, place: Place) -> Result<(), NoMemory>
     push_text(out, b"\n")
 }
 
+fn push_why(out: &mut Vec<u8>, why: Why) -> Result<(), NoMemory>
+    ensures { OnOk result (out.new.items ≡ out.old.items ++ why_word why) }
+{
+    match why {
+        Why::Client => push_text(out, b"client"),
+        Why::On => push_text(out, b"on"),
+        Why::Off => push_text(out, b"off"),
+        Why::Position => push_text(out, b"position"),
+        Why::Round => push_text(out, b"round"),
+        Why::Placed => push_text(out, b"placed"),
+        Why::Plan => push_text(out, b"plan"),
+        Why::Request => push_text(out, b"request"),
+        Why::Service => push_text(out, b"service"),
+        Why::Prefix => push_text(out, b"prefix"),
+        Why::Bid => push_text(out, b"bid"),
+        Why::Promises => push_text(out, b"promises"),
+        Why::Nothing => push_text(out, b"nothing"),
+        Why::Chosen => push_text(out, b"chosen"),
+        Why::Generation => push_text(out, b"generation"),
+        Why::Turned => push_text(out, b"turned"),
+    }
+}
+
+#[tactic(auto, unfolding(crate::specs::Texts::refusal_text))]
+fn push_not_enabled(out: &mut Vec<u8>, event: u64, why: Why) -> Result<(), NoMemory>
+    ensures { OnOk result (out.new.items ≡ out.old.items ++ refusal_text (Refusal.NotEnabled event why)) }
+{
+    push_text(out, b"event ")?;
+    push_number(out, event)?;
+    push_text(out, b" ")?;
+    push_why(out, why)?;
+    push_text(out, b"\n")
+}
+
 /// The lines of a refusal.
 #[tactic(auto, unfolding(crate::specs::Texts::refusal_text))]
 pub(crate) fn push_refusal(out: &mut Vec<u8>, refusal: &Refusal) -> Result<(), NoMemory>
@@ -194,5 +281,6 @@ pub(crate) fn push_refusal(out: &mut Vec<u8>, refusal: &Refusal) -> Result<(), N
             second,
         } => push_split(out, *position, first, second),
         Refusal::Limit { what, value } => push_limit(out, *what, *value),
+        Refusal::NotEnabled { event, why } => push_not_enabled(out, *event, *why),
     }
 }

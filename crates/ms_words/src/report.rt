@@ -3,16 +3,36 @@
 ghost use Rattle.std.specs.Prelude.{◌≡◌, ◌++◌, OnOk, OnErr};
 ghost use Rattle.ms_words.specs.Texts.{text_of, status_of};
 
-use crate::lines::{push_audit, push_refusal};
-use ms_base::{Name, NoMemory};
+use crate::lines::{push_audit, push_drill, push_hash, push_refusal};
+use ms_base::{Items, Name, NoMemory};
 use ms_record::{Entries, Refusal};
+
+/// Last positions of clients, by number.
+pub type Known = Items<u32>;
 
 /// What a command answers: `docs/FORMATS.md`, reports.
 #[derive(Drop)]
 pub enum Report {
     /// The agreed chain: the name of its genesis, and the members behind it by position.
-    Audit { genesis: Name, entries: Entries },
-    Refused { refusal: Refusal },
+    Audit {
+        genesis: Name,
+        entries: Entries,
+    },
+    /// The chain of a drill, as of an audit, and the last position that each client knows, by number.
+    Drill {
+        genesis: Name,
+        entries: Entries,
+        known: Known,
+    },
+    /// The tree of a listing: how many files and different objects it has, and the name of its root.
+    Hash {
+        files: u32,
+        objects: u64,
+        root: Name,
+    },
+    Refused {
+        refusal: Refusal,
+    },
 }
 
 fn push_report(out: &mut Vec<u8>, report: &Report) -> Result<(), NoMemory>
@@ -20,6 +40,16 @@ fn push_report(out: &mut Vec<u8>, report: &Report) -> Result<(), NoMemory>
 {
     match report {
         Report::Audit { genesis, entries } => push_audit(out, genesis, entries.as_slice()),
+        Report::Drill {
+            genesis,
+            entries,
+            known,
+        } => push_drill(out, genesis, entries.as_slice(), known.as_slice()),
+        Report::Hash {
+            files,
+            objects,
+            root,
+        } => push_hash(out, *files, *objects, root),
         Report::Refused { refusal } => push_refusal(out, refusal),
     }
 }
@@ -45,6 +75,7 @@ fn refusal_status(refusal: &Refusal) -> u8
         Refusal::NoMemory => 8,
         Refusal::Split { .. } => 10,
         Refusal::Limit { .. } => 11,
+        Refusal::NotEnabled { .. } => 16,
     }
 }
 
@@ -54,6 +85,8 @@ pub fn status(report: &Report) -> u8
 {
     match report {
         Report::Audit { .. } => 0,
+        Report::Drill { .. } => 0,
+        Report::Hash { .. } => 0,
         Report::Refused { refusal } => refusal_status(refusal),
     }
 }

@@ -2,7 +2,7 @@
 
 use crate::{Command, Report, WordsError, print_report, read_words, status};
 use ms_base::{ClientId, Items, Name, NoMemory, Quantity, ServiceId};
-use ms_record::{Entry, Place, Plan, PlanRow, Refusal};
+use ms_record::{Entry, Place, Plan, PlanRow, Refusal, Why};
 use std::alloc::Global;
 use std::test::*;
 
@@ -24,6 +24,15 @@ fn audit_takes_one_file(rt: HostRuntime) {
 }
 
 #[test]
+fn hash_takes_one_file(rt: HostRuntime) {
+    let words = words_of(rt.alloc(), &["hash", "/a/b"]).expect(&rt, "memory");
+    let Ok(Command::Hash { file }) = read_words(rt.alloc(), &words) else {
+        panic!(rt; "these words are a command");
+    };
+    assert_eq!(rt; file.as_slice(), b"/a/b".as_slice());
+}
+
+#[test]
 fn words_outside_the_grammar(rt: HostRuntime) {
     let none: [&str; 0] = [];
     for words in [
@@ -34,6 +43,12 @@ fn words_outside_the_grammar(rt: HostRuntime) {
         &["Audit", "a"],
         &["audit ", "a"],
         &["push", "ann", "--lanes", "5"],
+        &["hash"],
+        &["drill"],
+        &["drill", "-a"],
+        &["hash", "-"],
+        &["hash", "a", "b"],
+        &["hashes", "a"],
         &[""],
     ] {
         let words = words_of(rt.alloc(), words).expect(&rt, "memory");
@@ -85,6 +100,33 @@ fn lines_of_a_chain(rt: HostRuntime) {
 }
 
 #[test]
+fn lines_of_a_drill(rt: HostRuntime) {
+    let mut known = Items::new(rt.alloc());
+    assert!(rt; known.push(0).is_ok());
+    assert!(rt; known.push(4_294_967_294).is_ok());
+    let report = Report::Drill {
+        genesis: Name([0; 32]),
+        entries: Items::new(rt.alloc()),
+        known,
+    };
+    let lines = "0 0000000000000000000000000000000000000000000000000000000000000000\nend 0\n\
+        client 0 knows 0\nclient 1 knows 4294967294\n";
+    assert!(rt; tells(rt.alloc(), &report, lines, 0));
+}
+
+#[test]
+fn lines_of_a_tree(rt: HostRuntime) {
+    let report = Report::Hash {
+        files: 100_000,
+        objects: 18_446_744_073_709_551_615,
+        root: Name([171; 32]),
+    };
+    let lines = "files 100000\nobjects 18446744073709551615\n\
+        root abababababababababababababababababababababababababababababababab\n";
+    assert!(rt; tells(rt.alloc(), &report, lines, 0));
+}
+
+#[test]
 fn lines_of_refusals(rt: HostRuntime) {
     for (refusal, lines, wanted) in [
         (Refusal::Usage, "usage\n", 1),
@@ -127,6 +169,14 @@ fn lines_of_refusals(rt: HostRuntime) {
             },
             "limit input 16777217\n",
             11,
+        ),
+        (
+            Refusal::NotEnabled {
+                event: 18,
+                why: Why::Turned,
+            },
+            "event 18 turned\n",
+            16,
         ),
     ] {
         assert!(rt; tells(rt.alloc(), &Report::Refused { refusal }, lines, wanted));
