@@ -1,0 +1,13 @@
+pub mod Placing
+pub mod Puts
+pub mod Reaching
+pub mod Worlds
+pub mod Steps
+pub mod Refusals
+pub mod Held
+pub mod Rulings
+pub mod Valid
+pub mod Passes
+pub mod States
+pub mod WorldInside
+pub mod Floors

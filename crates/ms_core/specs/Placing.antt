@@ -1,0 +1,101 @@
+-- When a version is placed: all that it reaches is put on enough services of a plan.
+use Rattle.std.specs.Prelude.{◌≡◌, ℕ, ◌≤◌, ◌==◌, ◌&&◌, Bool, true, bytes_eq, List, [], ◌∷◌, map, All, Option, Some, None, Contains, count_by, slice_index_or, if◌then◌else◌}
+use Rattle.sha2.specs.Sha256.{sha256}
+use Rattle.ms_base.specs.declared.names.Name.{Name}
+use Rattle.ms_core.specs.declared.reaching.Want.{Want}
+use Rattle.ms_core.specs.declared.reaching.Wanted.{Wanted}
+use Rattle.ms_core.specs.declared.reaching.Wanted.TheVariants.{Blob, File, Directory, Version}
+use Rattle.ms_object.specs.declared.object.Kind.{Kind}
+use Rattle.ms_object.specs.declared.object.Kind.TheVariants as kinds
+use Rattle.ms_object.specs.declared.object.Object.{Object}
+use Rattle.ms_object.specs.declared.object.Object.TheVariants as objects
+use Rattle.ms_object.specs.declared.object.Row.{Row}
+use Rattle.ms_object.specs.Objects.{Spells}
+use Rattle.ms_object.specs.Trees.{Texts}
+use Rattle.ms_record.specs.declared.log.LogEvent.{LogEvent}
+use Rattle.ms_record.specs.declared.log.LogEvent.TheVariants.{Put}
+use Rattle.ms_record.specs.declared.plan.PlanRow.{PlanRow}
+use Rattle.ms_record.specs.Logs.{HasPut, Stands}
+use Rattle.ms_record.specs.Plans.{PlanView}
+
+-- an object is of the kind that names it
+abbrev pub IsOf : Wanted → Object → Type 0
+IsOf Blob (objects.Blob text) = Unit {0}
+IsOf File (objects.File size blobs) = Unit {0}
+IsOf Directory (objects.Dir rows) = Unit {0}
+IsOf Version (objects.Version client number parents root) = Unit {0}
+IsOf _ _ = ⊥
+
+abbrev pub wanted_of : Kind → Wanted
+wanted_of kinds.File = File
+wanted_of kinds.Dir = Directory
+
+abbrev pub want_of : Wanted → Name → Want
+want_of wanted name = record { name = name; wanted = wanted }
+
+-- the names in an object, each with what it is to name; a version's parents are not reached
+abbrev pub wanted_in : Object → List Want
+wanted_in (objects.Blob text) = []
+wanted_in (objects.File size blobs) = map (want_of Blob) blobs
+wanted_in (objects.Dir rows) = map (λ (row : Row). want_of (wanted_of row.kind) row.name) rows
+wanted_in (objects.Version client number parents root) = want_of Directory root ∷ []
+
+-- the store has an object of that kind under that name
+pub record HasObject (store : Texts) (name : Name) (wanted : Wanted) : Type 0 where
+  pub text : List ℕ
+  pub is : store name.0 ≡ Some text
+  pub object : Object
+  pub spells : Spells text object
+  pub kind : IsOf wanted object
+
+-- at least as many services of the plan as its replicas
+pub record OnEnough (has : ℕ → Type 0) (plan : PlanView) : Type 0 where
+  pub part : ℕ → Bool
+  pub have : (s : ℕ) → part s ≡ true → has s
+  pub enough : plan.replicas ≤ count_by (λ (row : PlanRow). part row.service.0) plan.rows
+
+-- A store with a version of that name: with each text it has what that names, and each text stands under its SHA-256
+-- and is on enough services of the plan, where `has` says what a service has.
+pub record PlacedBy (has : ℕ → Name → Type 0) (plan : PlanView) (version : Name) : Type 0 where
+  pub store : Texts
+  pub top : HasObject store version Version
+  pub below : (name : Name) (text : List ℕ) (object : Object) → store name.0 ≡ Some text → Spells text object
+      → All (λ (want : Want). HasObject store want.name want.wanted) (wanted_in object)
+  pub named : (name : Name) (text : List ℕ) → store name.0 ≡ Some text → name.0 ≡ sha256 text
+  pub put : (name : Name) (text : List ℕ) → store name.0 ≡ Some text → OnEnough (λ s. has s name) plan
+
+-- placed by puts in the plan's generation, whether they stand or not
+abbrev pub IsPlaced : (ℕ → List LogEvent) → PlanView → Name → Type 0
+IsPlaced logs plan version = PlacedBy (λ s name. HasPut (logs s) plan.generation name) plan version
+
+-- placed by puts that stand
+abbrev pub StaysPlaced : (ℕ → List LogEvent) → PlanView → Name → Type 0
+StaysPlaced logs plan version = PlacedBy (λ s name. Stands (logs s) plan.generation name) plan version
+
+-- the text that an event puts under that name in that generation
+abbrev pub text_put_by : ℕ → Name → LogEvent → Option (List ℕ)
+text_put_by generation name (Put g x text) = if (g == generation) && bytes_eq x.0 name.0 then Some text else None
+text_put_by generation name _ = None
+
+abbrev pub or_else : Option (List ℕ) → Option (List ℕ) → Option (List ℕ)
+or_else None later = later
+or_else (Some text) later = Some text
+
+-- the first text that a log puts under that name in that generation
+abbrev pub text_put : ℕ → Name → List LogEvent → Option (List ℕ)
+text_put generation name [] = None
+text_put generation name (event ∷ log) = or_else (text_put_by generation name event) (text_put generation name log)
+
+-- the same of all logs, in the order of the services
+abbrev pub text_of_puts : List (List LogEvent) → ℕ → Name → Option (List ℕ)
+text_of_puts [] generation name = None
+text_of_puts (log ∷ logs) generation name = or_else (text_put generation name log) (text_of_puts logs generation name)
+
+-- placed by the first text that was put under each name, where these are the logs of the services
+pub record IsPlacedInLogs (logs : List (List LogEvent)) (plan : PlanView) (version : Name) : Type 0 where
+  pub placed : PlacedBy (λ s name. HasPut (slice_index_or logs s []) plan.generation name) plan version
+  pub texts : (name : Name) (text : List ℕ) → placed.store name.0 ≡ Some text → text_of_puts logs plan.generation name ≡ Some text
+
+-- each text was put under its SHA-256
+abbrev pub ArePutsNamed : List LogEvent → Type 0
+ArePutsNamed log = (generation : ℕ) (name : Name) (text : List ℕ) → Contains log (Put generation name text) → name.0 ≡ sha256 text
