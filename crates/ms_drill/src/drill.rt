@@ -1,0 +1,160 @@
+//! Drills: a setting, and events in their order.
+
+ghost use Rattle.std.specs.Prelude.{◌≡◌, ◌<◌, ◌-◌, ◌^◌, ℕ, length, Err, IfOk};
+ghost use Rattle.ms_drill.specs.Drills.{drill_at, empty_version, events_at, first_plan, setting_of, IsHead, IsWrongLine, ReadsDrill, ReadsEvents};
+ghost use Rattle.ms_record.specs.Plans.{IsPlan};
+ghost use Rattle.ms_record.specs.Settings.{IsSetting};
+ghost use Rattle.ms_record.specs.declared.refusal.Refusal.TheVariants as refusals;
+ghost use Rattle.ms_record.specs.declared.refusal.Place.TheVariants as places;
+ghost use Rattle.ms_text.specs.Lines.{lines_of};
+
+use crate::event::read_event;
+use crate::head::{Head, read_head};
+use ms_base::{ClientId, Items, Name, Quantity, ServiceId};
+use ms_core::Event;
+use ms_object::name_of;
+use ms_record::{Entry, Place, Plan, PlanRow, Refusal, Setting};
+use ms_text::next_line;
+use sha2::{Digest, Sha256};
+use std::alloc::Global;
+
+/// A list of events.
+pub type Events = Items<Event>;
+
+/// A setting, and events in their order.
+#[derive(Drop)]
+pub struct Drill {
+    pub setting: Setting,
+    pub events: Events,
+}
+
+/// The most events of a drill.
+const MOST_EVENTS: u64 = 10_000;
+
+/// The most services.
+const MOST_SERVICES: usize = 16;
+
+/// The drill that the text spells: `docs/FORMATS.md`, drill.
+pub fn read_drill(alloc: Global, text: &[u8]) -> Result<Drill, Refusal>
+    requires { length text.now < 2 ^ 32 - 2 }
+    ensures exact { ReadsDrill (drill_at text.now) result }
+    ensures first { (line : ℕ) → drill_at text.now ≡ Err (refusals.BadInput places.Input line) → IsWrongLine (lines_of text.now) line }
+    ensures setting { IfOk result (λ d. IsSetting d.setting) }
+{
+    if text.is_empty() {
+        return Err(wrong_line(1));
+    }
+    let (first, rest) = next_line(text);
+    let Some(head) = read_head(first) else {
+        return Err(wrong_line(1));
+    };
+    let count = count_lines(rest);
+    if count > MOST_EVENTS {
+        return Err(Refusal::Limit {
+            what: Quantity::Events,
+            value: count,
+        });
+    }
+    let events = read_events(alloc, rest)?;
+    Ok(Drill {
+        setting: setting(first, head),
+        events,
+    })
+}
+
+fn wrong_line(line: u32) -> Refusal
+    ensures { result ≡ refusals.BadInput places.Input line }
+{
+    Refusal::BadInput {
+        place: Place::Input,
+        line,
+    }
+}
+
+/// How many lines a text has.
+fn count_lines(text: &[u8]) -> u64
+    ensures { result ≡ length (lines_of text.now) }
+{
+    let mut rest = text;
+    let mut count: u64 = 0;
+    while !rest.is_empty() {
+        let (_, after) = next_line(rest);
+        rest = after;
+        count += 1;
+    }
+    count
+}
+
+/// The events of the lines behind the head.
+fn read_events(alloc: Global, text: &[u8]) -> Result<Events, Refusal>
+    requires { length text.now < 2 ^ 32 - 2 }
+    ensures { ReadsEvents (events_at (lines_of text.now)) result }
+{
+    let mut events = Items::new(alloc);
+    let mut rest = text;
+    let mut line = 2;
+    while !rest.is_empty() {
+        let (first, after) = next_line(rest);
+        match read_event(alloc, first)? {
+            Some(event) => events.push(event)?,
+            None => return Err(wrong_line(line)),
+        }
+        rest = after;
+        line += 1;
+    }
+    Ok(events)
+}
+
+/// The setting that the first line gives.
+fn setting(line: &[u8], head: Head) -> Setting
+    requires { IsHead head }
+    ensures is { result ≡ setting_of line.now head }
+    ensures fits { IsSetting result }
+{
+    let genesis = Entry {
+        before: name_of(line),
+        client: ClientId(0),
+        number: 0,
+        version: empty_version(),
+        plan: Some(first_plan(head)),
+    };
+    Setting {
+        services: head.services,
+        clients: head.clients,
+        genesis,
+    }
+}
+
+/// The first plan: capacity 1 for each service.
+fn first_plan(head: Head) -> Plan
+    requires { IsHead head }
+    ensures is { result ≡ first_plan head }
+    ensures keeps { IsPlan result }
+{
+    let mut rows = [PlanRow {
+        service: ServiceId(0),
+        capacity: 1,
+    }; MOST_SERVICES];
+    for i in 0..MOST_SERVICES {
+        rows[i] = PlanRow {
+            service: ServiceId(i as u32),
+            capacity: 1,
+        };
+    }
+    match Plan::new(1, 1, head.replicas, 1, &rows[..head.services as usize]) {
+        Some(plan) => plan,
+        None => unreachable!(),
+    }
+}
+
+/// The name of the empty version: client 0, number 0, no parents, and the empty directory as its root.
+#[tactic(auto, unfolding(crate::specs::Drills::empty_version))]
+fn empty_version() -> Name
+    ensures { result ≡ empty_version }
+{
+    let root = name_of(b"D\0\0\0\0");
+    let mut hasher = Sha256::new();
+    hasher.update(b"V\0\0\0\0\0\0\0\0\0");
+    hasher.update(&root.0);
+    Name(hasher.finalize())
+}
