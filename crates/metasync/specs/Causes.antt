@@ -1,5 +1,5 @@
 -- Causes that several commands share, and how a report is told.
-use Rattle.std.specs.Prelude.{◌≡◌, ℕ, ◌+◌, ◌<◌, ◌≤◌, true, List, length, take, IfSome, ◌⊎◌, Result, Ok, Err}
+use Rattle.std.specs.Prelude.{◌≡◌, ℕ, ◌+◌, ◌≤◌, true, List, length, take, ◌⊎◌, Result, Ok, Err}
 use Rattle.std.specs.Io.KnownBytes.{Appends}
 use Rattle.ms_base.specs.Counts.{Rose}
 use Rattle.ms_base.specs.Outside.{InputsView, SinkView, HasText}

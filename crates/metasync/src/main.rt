@@ -2,6 +2,8 @@
 #![tactic(auto)]
 
 mod audit;
+mod drill;
+mod hash;
 mod house;
 mod input;
 mod top;
@@ -13,6 +15,8 @@ use std::alloc::AllocError;
 use std::process::ExitCode;
 use std::{env, io};
 
+#[cfg(test)]
+mod drill_tests;
 #[cfg(test)]
 mod tests;
 

@@ -1,6 +1,7 @@
 //! The top call over texts in memory. The names were computed by an independent SHA-256.
 
 use crate::audit::audit;
+use crate::hash::hash_listing;
 use crate::top::run;
 use ms_base::{Bytes, FreeGate, InputText, MemoryInputs, NoMemory, VecSink};
 use std::alloc::Global;
@@ -59,7 +60,7 @@ fn joined(alloc: Global, parts: &[&str]) -> Result<Bytes, NoMemory> {
 }
 
 /// The text of these parts, under the name `d`.
-fn inputs(alloc: Global, parts: &[&str]) -> Result<MemoryInputs, NoMemory> {
+pub(crate) fn inputs(alloc: Global, parts: &[&str]) -> Result<MemoryInputs, NoMemory> {
     let mut texts = Vec::new(alloc);
     texts.push(InputText {
         name: Bytes::of(alloc, b"d")?,
@@ -77,7 +78,13 @@ fn words_of(alloc: Global, words: &[&str]) -> Result<Vec<String>, NoMemory> {
 }
 
 /// Whether these words, over the text of these parts, are answered by the lines and the status.
-fn answers(alloc: Global, words: &[&str], parts: &[&str], lines: &str, wanted: u8) -> bool {
+pub(crate) fn answers(
+    alloc: Global,
+    words: &[&str],
+    parts: &[&str],
+    lines: &str,
+    wanted: u8,
+) -> bool {
     let (Ok(words), Ok(mut inputs)) = (words_of(alloc, words), inputs(alloc, parts)) else {
         return false;
     };
@@ -177,6 +184,98 @@ fn bad_dump_lines(rt: HostRuntime) {
     assert!(rt; audits(rt.alloc(), &[HEAD_OF_3, "0 00\r\n"], "bad input 2\n", 2));
     assert!(rt; audits(rt.alloc(), &[HEAD_OF_3, "0 \0\n"], "bad input 2\n", 2));
     assert!(rt; audits(rt.alloc(), &[HEAD_OF_3, "0 00"], GENESIS_ALONE, 0));
+}
+
+/// Whether the hash of the listing of these parts is answered so, by the call and by the words.
+fn hashes(alloc: Global, parts: &[&str], lines: &str, wanted: u8) -> bool {
+    let Ok(mut inputs) = inputs(alloc, parts) else {
+        return false;
+    };
+    let mut out = VecSink::new(alloc, 1000, Vec::new(alloc));
+    let status = hash_listing(alloc, "d", &mut inputs, &mut out);
+    out.text() == lines.as_bytes()
+        && status == wanted
+        && answers(alloc, &["hash", "d"], parts, lines, wanted)
+}
+
+/// So many times the part.
+pub(crate) fn repeated(alloc: Global, part: &str, times: usize) -> Result<String, NoMemory> {
+    let mut text = String::new(alloc);
+    for _ in 0..times {
+        text.push_str(part)?;
+    }
+    Ok(text)
+}
+
+#[test]
+fn hash_of_nothing(rt: HostRuntime) {
+    let lines = "files 0\nobjects 1\n\
+        root 093f931703155bc6bf1c13039ffdb49856410b2b359c93cab8e52059073ecef9\n";
+    assert!(rt; hashes(rt.alloc(), &[], lines, 0));
+}
+
+#[test]
+fn hash_of_three_files(rt: HostRuntime) {
+    let alloc = rt.alloc();
+    // a.txt, docs/b.txt and docs/c.bin, which has 65,537 zero bytes
+    let zeros = repeated(alloc, "00", 65_537).expect(&rt, "memory");
+    let parts = [
+        "612e747874 68656C6C6F0a\n",
+        "646f63732f622e747874 -\n",
+        "646f63732f632e62696e ",
+        zeros.as_str(),
+        "\n",
+    ];
+    let lines = "files 3\nobjects 8\n\
+        root a1ee4b19e8fcfd5903d0ae23a5f270857466b6b9e53ead624eb8ab81caa2b16b\n";
+    assert!(rt; hashes(alloc, &parts, lines, 0));
+}
+
+#[test]
+fn hash_of_labels_beside_slashes(rt: HostRuntime) {
+    // a!, a.txt, a/x and a0: in the order of their bytes as paths, not of their labels
+    let listing = "6130 -\n612f78 32\n612e747874 31\n6121 31\n";
+    let lines = "files 4\nobjects 7\n\
+        root b8b0a52e0debb67016128be48ae614ec5948edd3fb55b78db28d33fdada7b138\n";
+    assert!(rt; hashes(rt.alloc(), &[listing], lines, 0));
+}
+
+#[test]
+fn bad_listing_lines(rt: HostRuntime) {
+    for (listing, lines) in [
+        ("612f2e2e -\n", "bad input 1\n"),
+        ("61 -\n61 -\n", "bad input 2\n"),
+        ("61 -\n612f62 -\n", "bad input 2\n"),
+        ("612f62 -\n61 -\n", "bad input 2\n"),
+        ("61 5\n", "bad input 1\n"),
+        ("61\n", "bad input 1\n"),
+        ("- 00\n", "bad input 1\n"),
+        ("6100 -\n", "bad input 1\n"),
+        ("ff -\n", "bad input 1\n"),
+        ("61 -\n\n62 -\n", "bad input 2\n"),
+        ("61 -\r\n", "bad input 1\n"),
+    ] {
+        assert!(rt; hashes(rt.alloc(), &[listing], lines, 2));
+    }
+}
+
+#[test]
+fn listings_that_pass_a_limit(rt: HostRuntime) {
+    let alloc = rt.alloc();
+    let part = repeated(alloc, "61", 201).expect(&rt, "memory");
+    assert!(rt; hashes(alloc, &[&part, " -\n"], "limit part 201\n", 11));
+    let levels = repeated(alloc, "612f", 64).expect(&rt, "memory");
+    assert!(rt;
+        hashes(
+            alloc,
+            &["62 -\n", &levels, "61 -\n"],
+            "limit levels 65\n",
+            11
+        )
+    );
+    // 1,025 bytes, of which the first part has 201
+    let path = repeated(alloc, "2f61", 412).expect(&rt, "memory");
+    assert!(rt; hashes(alloc, &[&part, &path, " -\n"], "limit path 1025\n", 11));
 }
 
 #[test]

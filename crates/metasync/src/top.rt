@@ -9,6 +9,8 @@ ghost use Rattle.ms_words.specs.Texts.{text_of};
 ghost use Rattle.metasync.specs.Statuses.{HasCauses};
 
 use crate::audit::audit_report;
+use crate::drill::drill_report;
+use crate::hash::hash_report;
 use ms_base::{Bytes, Gate, Inputs, Sink, write_all};
 use ms_record::Refusal;
 use ms_words::{Command, Report, WordsError, print_report, read_words, status};
@@ -83,6 +85,8 @@ fn carry_out<H: Inputs>(alloc: Global, command: &Command, house: &mut H) -> Repo
 {
     match command {
         Command::Audit { file } => audit_report(alloc, text_of_name(file), house),
+        Command::Drill { file } => drill_report(alloc, text_of_name(file), house),
+        Command::Hash { file } => hash_report(alloc, text_of_name(file), house),
     }
 }
 
