@@ -1,0 +1,119 @@
+#!/usr/bin/env python3
+"""Compares `metasync drill` with bench/drill_reference.py on random schedules, line by line and by status.
+
+usage: bench/compare_drill.py PROGRAM [COUNT [SEED]]
+Events are drawn so that most can happen: the schedule is built along a world of the reference, and an event that can't
+happen ends some of them.
+"""
+import os
+import random
+import subprocess
+import sys
+import tempfile
+
+from drill_reference import Refused, World, drill, parse_event, sha, struct
+
+EMPTY = b"D\0\0\0\0"
+
+
+def versions(rng):
+    """Objects of small trees: their texts, and the names of their versions."""
+    texts, names = [EMPTY], []
+    for number in range(3):
+        blob = b"B" + bytes([number])
+        file_ = b"F" + struct.pack(">QI", 1, 1) + sha(blob)
+        tree = b"D" + struct.pack(">I", 1) + b"f\1a" + sha(file_)
+        root = EMPTY if rng.random() < 0.5 else tree
+        version = b"V" + struct.pack(">IIB", 0, number, 0) + sha(root)
+        texts += [blob, file_, tree, version]
+        names.append(sha(version))
+    empty = b"V" + struct.pack(">IIB", 0, 0, 0) + sha(EMPTY)
+    return texts + [empty], names
+
+
+def draw(rng, world, texts, names):
+    client, service = rng.randrange(world.c), rng.randrange(world.n)
+    c = world.clients[client]
+    kind = rng.random()
+    if not c["on"]:
+        return "start %d" % client
+    if kind < 0.25 and world.requests:
+        fresh = max(0, len(world.requests) - 3 * world.n)
+        return "deliver %d" % rng.randrange(fresh if rng.random() < 0.8 else 0, len(world.requests))
+    if kind < 0.5:
+        known, length = c["known"][service], len(world.logs[service])
+        return "read %d %d %d" % (client, service, length if rng.random() < 0.8 else rng.randint(known, length))
+    if kind < 0.62:
+        return "offer %d" % client
+    if kind < 0.72:
+        return "learn %d" % client
+    if kind < 0.82:
+        round_ = c["kept"] + rng.choice([1, 1, 2, 3])
+        if rng.random() < 0.3:
+            return "bid %d %d -" % (client, round_)
+        return "bid %d %d %d %s" % (client, round_, rng.randrange(5), rng.choice(names).hex())
+    if kind < 0.87:
+        services = sorted(rng.sample(range(world.n), rng.randint(1, world.n)))
+        generation = world.plan_after(c["chain"])["generation"] + rng.choice([0, 0, 1])
+        words = client, c["kept"] + 1, rng.randrange(5), generation, rng.randint(1, len(services)), ",".join(map(str, services))
+        return "turn %d %d %d %d %d %s" % words
+    if kind < 0.96:
+        return "place %d %d %s" % (service, rng.choice([1, 1, 1, 2, 2, 3]), rng.choice(texts).hex())
+    if kind < 0.98:
+        return "drop %d %d" % (service, rng.choice([0, 1, 2, 2, 3]))
+    return "stop %d" % client
+
+
+def schedule(rng):
+    n, c = rng.randint(1, 4), rng.randint(1, 3)
+    head = "metasync-drill 1 %d %d %d" % (n, c, rng.randint(1, n))
+    world = World(head.encode(), n, c, int(head.split()[-1]))
+    texts, names = versions(rng)
+    lines = [head]
+    if rng.random() < 0.8:
+        for service in range(n):
+            for text in texts:
+                lines.append("place %d 1 %s" % (service, text.hex()))
+                if rng.random() < 0.5:
+                    lines.append("place %d 2 %s" % (service, text.hex()))
+    for line in lines[1:]:
+        world.step(parse_event(line.encode()))
+    for _ in range(rng.randint(1, 150)):
+        line = draw(rng, world, texts, names)
+        try:
+            world.step(parse_event(line.encode()))
+            lines.append(line)
+        except Refused:
+            if rng.random() < 0.01:
+                lines.append(line)
+                break
+    if rng.random() < 0.05:
+        lines.append(rng.choice(["", "start", "offer 0 ", "read 0 0", "turn 0 1 1 1 1 0,0", "place 0 1 -", "bid 0 1 -1 -"]))
+    return "".join(line + "\n" for line in lines).encode()
+
+
+def main():
+    program = os.path.abspath(sys.argv[1])
+    count = int(sys.argv[2]) if len(sys.argv) > 2 else 500
+    rng = random.Random(int(sys.argv[3]) if len(sys.argv) > 3 else 1)
+    seen, chains, differ = {}, 0, 0
+    with tempfile.TemporaryDirectory(dir="/dev/shm") as folder:
+        path = os.path.join(folder, "d")
+        for at in range(count):
+            text = schedule(rng)
+            with open(path, "wb") as f:
+                f.write(text)
+            lines, status = drill(text)
+            run = subprocess.run([program, "drill", path], capture_output=True, check=False)
+            seen[status] = seen.get(status, 0) + 1
+            chains = max(chains, lines.count(" push ") + lines.count(" plan "))
+            if run.stdout.decode() != lines or run.returncode != status or run.stderr:
+                differ += 1
+                with open("drill_differs_%d" % at, "wb") as f:
+                    f.write(text)
+                print("schedule %d differs (drill_differs_%d)" % (at, at))
+    print("%d schedules, statuses %s, longest chain %d, %d differ" % (count, dict(sorted(seen.items())), chains, differ))
+    sys.exit(1 if differ else 0)
+
+
+main()

@@ -1,0 +1,56 @@
+#!/usr/bin/env python3
+"""Writes a schedule of so many events over 16 services and 16 clients to standard output.
+
+usage: bench/make_drill.py COUNT
+The clients push in turn, each behind what it has learned of the others; each bid and each offer reaches nine services.
+"""
+import hashlib
+import struct
+import sys
+
+SERVICES = CLIENTS = 16
+MAJORITY = SERVICES // 2 + 1
+
+
+def events():
+    logs = [0] * SERVICES
+    learned = [0] * CLIENTS
+    sent = 0
+    empty = b"D\0\0\0\0"
+    version = b"V" + struct.pack(">IIB", 0, 1, 0) + hashlib.sha256(empty).digest()
+    name = hashlib.sha256(version).hexdigest()
+    for client in range(CLIENTS):
+        yield "start %d" % client
+    for text in (empty, version):
+        logs[0] += 1
+        yield "place 0 1 %s" % text.hex()
+    position = 0
+    while True:
+        position += 1
+        client = position % CLIENTS
+
+        def read():
+            return ["read %d %d %d" % (client, s, logs[s]) for s in voters]
+
+        voters = [(position + s) % SERVICES for s in range(MAJORITY)]
+        yield from ["read %d %d %d" % (client, s, logs[s]) for s in range(SERVICES)]
+        yield from ["learn %d" % client] * (position - 1 - learned[client])
+        for ask in ("bid %d %d %d %s" % (client, position, position, name), "offer %d" % client):
+            yield ask
+            for service in voters:
+                logs[service] += 1
+                yield "deliver %d" % (sent + service)
+            sent += SERVICES
+            yield from read()
+        yield "learn %d" % client
+        learned[client] = position
+
+
+def main():
+    print("metasync-drill 1 %d %d 1" % (SERVICES, CLIENTS))
+    schedule = events()
+    for _ in range(int(sys.argv[1])):
+        print(next(schedule))
+
+
+main()
