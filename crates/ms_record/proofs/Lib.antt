@@ -5,7 +5,6 @@ mod EntryLaws
 mod Feeding
 mod FieldLaws
 mod Filling
-mod Growing
 mod Majorities
 mod PlanLaws
 mod PlanRules

@@ -13,3 +13,4 @@ pub mod Offers
 pub mod Chains
 pub mod Logs
 pub mod Settings
+pub mod Growing

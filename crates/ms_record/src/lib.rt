@@ -4,6 +4,7 @@
 pub mod ballot;
 pub mod entry;
 mod fields;
+pub mod item;
 pub mod law;
 pub mod log;
 pub mod plan;
@@ -15,6 +16,7 @@ pub mod writing;
 
 pub use ballot::{Ballot, Vote};
 pub use entry::{Entries, Entry, entry_name, links_on, parse_entry};
+pub use item::Item;
 pub use log::{ListId, LogEvent};
 pub use plan::{Plan, PlanRow};
 pub use record::{Record, parse_record};

@@ -1,6 +1,6 @@
 use Rattle.std.proofs.Common.{length}
 use Rattle.std.proofs.lemmas.Option.{slice_get_within}
-use Rattle.ms_record.proofs.Growing.{same_grown, promised_same, first_promised_same, taken_grows, best_same, chosen_grows, justified_grows}
+use Rattle.ms_record.specs.Growing.{same_grown, promised_same, first_promised_same, taken_grows, best_same, chosen_grows, justified_grows}
 use Rattle.ms_record.proofs.law.places_stay.Goals as goal
 
 pub returns-clause-promised : goal.returns-clause-promised

@@ -1,10 +1,14 @@
--- What lists show stays as it is when they grow.
-use Rattle.std.proofs.Common.{◌≡◌, ℕ, ◌<◌, ◌≤◌, suc, zero, List, [], ◌∷◌, ◌++◌, Option, Some, None, refl, sym, ap, ◌∙◌, slice_get, length, arith}
+-- What lists of records show stays as it is when they grow, and so do the votes of logs.
+use Rattle.std.proofs.Common.{◌≡◌, ℕ, ◌<◌, ◌≤◌, ◌==◌, Bool, true, false, cond, suc, zero, List, [], ◌∷◌, ◌++◌, Option, Some, None, refl, sym, ap, ◌∙◌, slice_get, length, arith}
 use Rattle.std.proofs.lemmas.Option.{slice_get_within}
 use Rattle.ms_record.specs.declared.ballot.Ballot.{Ballot}
 use Rattle.ms_record.specs.declared.entry.Entry.{Entry}
 use Rattle.ms_record.specs.declared.ballot.Vote.{Vote}
 use Rattle.ms_record.specs.declared.record.Record.{Record}
+use Rattle.ms_record.specs.declared.log.LogEvent.{LogEvent}
+use Rattle.ms_record.specs.declared.log.LogEvent.TheVariants.{Rec, Put, Drop}
+use Rattle.ms_record.specs.Logs.{vote_texts, votes_in}
+use Rattle.ms_record.specs.Reading.{record_at, votes_of, with_record}
 use Rattle.ms_record.specs.Offers.{IsFirstPromised, Shows, JustifiedBy, GrowsTo}
 use Rattle.ms_record.specs.Votes.{NoneAbove, IsTaken, IsPromised, IsGreatestTaken, IsBest, ChosenBy}
 
@@ -83,3 +87,32 @@ justified_grows old new voters k b e g h = record {
   shown = λ s m. shows_grows (old s) (new s) (g s).0 k b (h.bests s) (g s).1 (h.shown s m);
   entry_is = h.entry_is;
 }
+
+-- each log goes on from the old one
+abbrev pub LogsGrow : (ℕ → List LogEvent) → (ℕ → List LogEvent) → Type 0
+LogsGrow old new = (s : ℕ) → (more : List LogEvent) × (old s ++ more ≡ new s)
+
+texts_append : (a b : List LogEvent) → vote_texts (a ++ b) ≡ vote_texts a ++ vote_texts b
+texts_append [] b = refl
+texts_append (Rec list text ∷ a) b = by (list.0 == 0) (texts_append a b)
+  where
+    by : (t : Bool) → vote_texts (a ++ b) ≡ vote_texts a ++ vote_texts b
+        → cond t (text ∷ vote_texts (a ++ b)) (vote_texts (a ++ b)) ≡ cond t (text ∷ vote_texts a) (vote_texts a) ++ vote_texts b
+    by true e = ap (λ (l : List (List ℕ)). text ∷ l) e
+    by false e = e
+texts_append (Put generation name text ∷ a) b = texts_append a b
+texts_append (Drop floor ∷ a) b = texts_append a b
+
+records_append : (a b : List (List ℕ)) → votes_of (a ++ b) ≡ votes_of a ++ votes_of b
+records_append [] b = refl
+records_append (text ∷ a) b = ap (with_record (record_at text)) (records_append a b) ∙ by (record_at text)
+  where
+    by : (o : Option Record) → with_record o (votes_of a ++ votes_of b) ≡ with_record o (votes_of a) ++ votes_of b
+    by None = refl
+    by (Some r) = refl
+
+pub votes_append : (a b : List LogEvent) → votes_in (a ++ b) ≡ votes_in a ++ votes_in b
+votes_append a b = ap votes_of (texts_append a b) ∙ records_append (vote_texts a) (vote_texts b)
+
+pub votes_grow : (old new : ℕ → List LogEvent) → LogsGrow old new → GrowsTo (λ s. votes_in (old s)) (λ s. votes_in (new s))
+votes_grow old new g s = (votes_in (g s).0, sym (votes_append (old s) (g s).0) ∙ ap votes_in (g s).1)
