@@ -6,7 +6,7 @@ use Rattle.std.proofs.lemmas.List.Elements.{Contains-append_left, Contains-push,
 use Rattle.std.proofs.lemmas.Option.{get_or_from_slice_get, slice_get_within}
 use Rattle.ms_core.specs.Passes.{IsTop, Counts, IsUnshown, AreRising, IsReadOf}
 use Rattle.ms_core.specs.Steps.{IsShown}
-use Rattle.ms_core.proofs.Logs.{votes_append}
+use Rattle.ms_record.specs.Growing.{votes_append}
 use Rattle.ms_core.proofs.Places.{some_same, append_left, append_cases, alone}
 use Rattle.ms_record.specs.declared.ballot.Ballot.{Ballot}
 use Rattle.ms_record.specs.declared.ballot.Vote.{Vote}

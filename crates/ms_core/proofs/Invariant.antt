@@ -17,11 +17,12 @@ use Rattle.ms_record.specs.Records.{IsRecord, IsPosition}
 use Rattle.ms_record.specs.Settings.{origin_of, plan_after}
 use Rattle.ms_record.specs.Votes.{ballot_of, services_below}
 use Rattle.ms_core.specs.Placing.{ArePutsNamed, IsPlaced}
-use Rattle.ms_core.specs.Valid.{IsValid, votes_of_logs}
+use Rattle.ms_core.specs.Growth.{linked_grows, placed_grows}
+use Rattle.ms_core.specs.Valid.{IsBacked, IsValid, votes_of_logs}
 use Rattle.ms_core.specs.Worlds.{ClientView, RequestView, WorldView, log_of, votes_of_world, offers_of, offers_in, next_of, last_of, plan_of_client}
 use Rattle.ms_core.proofs.Laws.{Laws}
 use Rattle.ms_core.proofs.Places.{some_same}
-use Rattle.ms_core.proofs.Logs.{LogsGrow, votes_grow, placed_grows}
+use Rattle.ms_record.specs.Growing.{LogsGrow}
 
 -- an entry that a client may offer behind its chain
 pub record IsWanted (setting : Setting) (logs : ℕ → List LogEvent) (client : ℕ) (c : ClientView) (e : Entry) : Type 0 where
@@ -48,11 +49,6 @@ pub record ClientOk (setting : Setting) (logs : ℕ → List LogEvent) (client :
   pub linked : IsLinked (votes_of_logs logs) (all_services setting.services) (origin_of setting) c.chain
   pub bid : (bid : Bidding) → c.bid ≡ Some bid → IsBid setting logs client c bid
 
--- a drop has a linked list with a plan of at least its floor
-abbrev pub IsBacked : Setting → (ℕ → List LogEvent) → ℕ → Type 0
-IsBacked setting logs floor =
-    (floor ≤ 1) ⊎ ((c : List Entry) × IsLinked (votes_of_logs logs) (all_services setting.services) (origin_of setting) c × (floor ≤ generation_in 1 c))
-
 pub record Inv (setting : Setting) (w : WorldView) : Type 0 where
   pub clients : (client : ℕ) (c : ClientView) → slice_get w.clients client ≡ Some c → ClientOk setting (log_of w) client c
   pub listed : (s p k : ℕ) (b : Ballot) (e : Entry) → slice_get (votes_of_world w s) p ≡ Some (Accept k b e) → IsOffered (offers_in w) k b e
@@ -66,25 +62,6 @@ pub record Inv (setting : Setting) (w : WorldView) : Type 0 where
   pub named : (s : ℕ) → ArePutsNamed (log_of w s)
   pub services : length w.logs ≡ setting.services
   pub present : length w.clients ≡ setting.clients
-
--- growing logs
-pub linked_grows : (l : Laws) (setting : Setting) (old new : ℕ → List LogEvent) (c : List Entry) → LogsGrow old new
-    → IsLinked (votes_of_logs old) (all_services setting.services) (origin_of setting) c → IsLinked (votes_of_logs new) (all_services setting.services) (origin_of setting) c
-linked_grows l setting old new c g h = record {
-  chosen = λ i e at. l.chosen (votes_of_logs old) (votes_of_logs new) (services_below setting.services) (i + 1) e (votes_grow old new g) (h.chosen i e at);
-  links = h.links;
-}
-
-pub valid_grows : (l : Laws) (setting : Setting) (old new : ℕ → List LogEvent) (k : ℕ) (e : Entry) → LogsGrow old new → IsValid setting old k e → IsValid setting new k e
-valid_grows l setting old new k e g h = record {
-  members = h.members;
-  linked = linked_grows l setting old new h.members g h.linked;
-  at = h.at;
-  links = h.links;
-  plan = h.plan;
-  plan_is = h.plan_is;
-  placed = placed_grows old new h.plan e.version g h.placed;
-}
 
 wanted_grows : (setting : Setting) (old new : ℕ → List LogEvent) (client : ℕ) (c : ClientView) (e : Entry) → LogsGrow old new → IsWanted setting old client c e → IsWanted setting new client c e
 wanted_grows setting old new client c e g h = record {
@@ -112,13 +89,9 @@ client_grows l setting old new client c g h = record {
   known = h.known;
   own = h.own;
   rising = h.rising;
-  linked = linked_grows l setting old new c.chain g h.linked;
+  linked = linked_grows setting old new c.chain g h.linked;
   bid = λ bid is. bid_grows setting old new client c bid g (h.bid bid is);
 }
-
-pub backed_grows : (l : Laws) (setting : Setting) (old new : ℕ → List LogEvent) (floor : ℕ) → LogsGrow old new → IsBacked setting old floor → IsBacked setting new floor
-backed_grows l setting old new floor g (inl low) = inl low
-backed_grows l setting old new floor g (inr h) = inr (h.0, linked_grows l setting old new h.0 g h.1, h.2)
 
 -- the same place of one client's offers
 one_place : (setting : Setting) (logs : ℕ → List LogEvent) (client : ℕ) (c : ClientView) (ok : ClientOk setting logs client c) (i j : ℕ) (r q : Record)

@@ -19,8 +19,11 @@ use Rattle.ms_core.specs.Worlds.{ClientView, RequestView, WorldView, log_of, vot
 use Rattle.sha2.specs.Sha256.{sha256}
 use Rattle.ms_core.proofs.Laws.{Laws}
 use Rattle.ms_core.proofs.Places.{same_or_not, some_same, append_left, append_cases, set_here, set_there}
-use Rattle.ms_core.proofs.Logs.{votes_append, votes_grow, logged_at, logged_grows, logged_cases}
-use Rattle.ms_core.proofs.Invariant.{ClientOk, Inv, IsBacked, client_grows, valid_grows, backed_grows}
+use Rattle.ms_record.specs.Growing.{votes_append, votes_grow}
+use Rattle.ms_core.specs.Growth.{valid_grows, backed_grows}
+use Rattle.ms_core.specs.Valid.{IsBacked}
+use Rattle.ms_core.proofs.Logs.{logged_at, logged_grows, logged_cases}
+use Rattle.ms_core.proofs.Invariant.{ClientOk, Inv, client_grows}
 
 pub offered_grows : (old new : ℕ → List Record) (k : ℕ) (b : Ballot) (e : Entry) → GrowsTo old new → IsOffered old k b e → IsOffered new k b e
 offered_grows old new k b e g h =
@@ -133,8 +136,8 @@ keeps_logged l setting old t event h vote_ok drop_ok put_ok =
       sent_fits = h.sent_fits;
       fits = h.fits;
       justified = λ k b e o. l.justified (votes_of_world old) (votes_of_world after) (services_below setting.services) k b e v (h.justified k b e o);
-      valid = λ k b e o. valid_grows l setting (log_of old) (log_of after) k e g (h.valid k b e o);
-      dropped = λ s floor has. backed_grows l setting (log_of old) (log_of after) floor g (elim (logged_cases old t event s (Drop floor) has) [
+      valid = λ k b e o. valid_grows setting (log_of old) (log_of after) k e g (h.valid k b e o);
+      dropped = λ s floor has. backed_grows setting (log_of old) (log_of after) floor g (elim (logged_cases old t event s (Drop floor) has) [
         | inl there ↦ h.dropped s floor there
         | inr new ↦ drop_ok floor new
       ]);

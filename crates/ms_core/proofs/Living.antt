@@ -17,7 +17,7 @@ use Rattle.ms_core.proofs.Places.{some_same}
 use Rattle.std.proofs.lemmas.List.{take_all, take_at, take_more}
 use Rattle.std.proofs.lemmas.Option.{get_or_from_slice_get}
 use Rattle.ms_core.proofs.Invariant.{Inv}
-use Rattle.ms_core.proofs.Logs.{placed_more}
+use Rattle.ms_core.specs.Growth.{placed_more}
 use Rattle.ms_core.proofs.Runs.{inv_valid, inv_begins}
 
 generation_push : (g : ℕ) (c : List Entry) (e : Entry) → generation_in g (c ++ e ∷ []) ≡ generation_after (generation_in g c) e.plan

@@ -10,10 +10,12 @@ use Rattle.ms_core.specs.States.{IsState}
 use Rattle.ms_core.specs.Steps.{IsEvent, Step, Steps, last_number}
 use Rattle.ms_core.specs.Worlds.{ClientView, RequestView, WorldView, changed, known_votes, log_of, logged, next_of, votes_of_world}
 use Rattle.ms_core.proofs.Events.{chosen_offered}
-use Rattle.ms_core.proofs.Invariant.{Inv, linked_grows}
+use Rattle.ms_core.specs.Growth.{linked_grows}
+use Rattle.ms_core.proofs.Invariant.{Inv}
 use Rattle.ms_core.proofs.Laws.{Laws}
 use Rattle.ms_core.proofs.Living.{some_or_past}
-use Rattle.ms_core.proofs.Logs.{LogsGrow, known_grows, logged_grows}
+use Rattle.ms_record.specs.Growing.{LogsGrow}
+use Rattle.ms_core.proofs.Logs.{known_grows, logged_grows}
 use Rattle.ms_core.proofs.Runs.{inv_agrees, inv_begins, inv_valid, run_inv}
 use Rattle.ms_record.specs.declared.entry.Entry.{Entry}
 use Rattle.ms_record.specs.declared.log.LogEvent.{LogEvent}
@@ -61,7 +63,7 @@ step_grows setting old new (events.DropBelow service floor) s = more_logged old 
 -- a linked list stays one
 pub linked_stays : (l : Laws) (setting : Setting) (old new : WorldView) (event : Event) (chain : List Entry) → Step setting old event new
     → IsLinked (votes_of_world old) (all_services setting.services) (origin_of setting) chain → IsLinked (votes_of_world new) (all_services setting.services) (origin_of setting) chain
-linked_stays l setting old new event chain step linked = linked_grows l setting (log_of old) (log_of new) chain (step_grows setting old new event step) linked
+linked_stays l setting old new event chain step linked = linked_grows setting (log_of old) (log_of new) chain (step_grows setting old new event step) linked
 
 -- ---- positions
 

@@ -27,7 +27,8 @@ use Rattle.ms_core.specs.declared.event.Event.{Event}
 use Rattle.ms_core.specs.declared.event.Event.TheVariants as events
 use Rattle.ms_core.specs.declared.event.Push.{Push}
 use Rattle.ms_core.specs.Steps.{IsTurned, vote_list, DeliverStep, OfferStep, LearnStep, PlaceStep, DropStep, Step, Steps, IsRun, IsEvent}
-use Rattle.ms_core.proofs.Invariant.{ClientOk, Inv, IsBacked, sound}
+use Rattle.ms_core.specs.Valid.{IsBacked}
+use Rattle.ms_core.proofs.Invariant.{ClientOk, Inv, sound}
 use Rattle.ms_core.proofs.Keeping.{MayOffer, keeps_client, keeps_quiet, keeps_logged}
 use Rattle.ms_core.proofs.Events.{none_linked, message_of_all, keeps_start, keeps_stop, keeps_read, keeps_bid, keeps_turn, may_offer, offer_client, chosen_offered}
 

@@ -11,3 +11,6 @@ pub mod Passes
 pub mod States
 pub mod WorldInside
 pub mod Floors
+pub mod Growth
+pub mod Views
+pub mod Closing

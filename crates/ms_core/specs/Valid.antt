@@ -1,5 +1,5 @@
 -- What holds in every run: what is chosen agrees, links on and is placed, and live masters stay placed.
-use Rattle.std.specs.Prelude.{◌≡◌, ℕ, ◌+◌, List, Some, length, slice_get, take}
+use Rattle.std.specs.Prelude.{◌≡◌, ℕ, ◌+◌, ◌≤◌, ◌⊎◌, List, Some, length, slice_get, take}
 use Rattle.ms_record.specs.declared.record.Record.{Record}
 use Rattle.ms_core.specs.Placing.{IsPlaced}
 use Rattle.ms_record.specs.declared.entry.Entry.{Entry}
@@ -25,6 +25,11 @@ pub record IsValid (setting : Setting) (logs : ℕ → List LogEvent) (position 
   pub plan : PlanView
   pub plan_is : plan_after (plan_in setting.genesis.plan members) e.plan ≡ Some plan
   pub placed : IsPlaced logs plan e.version
+
+-- a floor is at most 1, or a linked list has a plan of at least that generation
+abbrev pub IsBacked : Setting → (ℕ → List LogEvent) → ℕ → Type 0
+IsBacked setting logs floor =
+    (floor ≤ 1) ⊎ ((members : List Entry) × IsLinked (votes_of_logs logs) (all_services setting.services) (origin_of setting) members × (floor ≤ generation_in 1 members))
 
 -- the member at place i of a chain, and the plan in force there
 pub record IsMember (setting : Setting) (chain : List Entry) (i : ℕ) (e : Entry) (plan : PlanView) : Type 0 where

@@ -7,6 +7,7 @@ mod bids;
 mod chain;
 mod chosen;
 pub mod client;
+pub mod closing;
 pub mod event;
 mod front;
 mod happen;
@@ -23,6 +24,7 @@ mod state;
 pub mod world;
 
 pub use client::{Bidding, Request};
+pub use closing::{Common, FoldClosed, Know};
 pub use event::{Event, Push};
 pub use rule::Ruling;
 pub use world::World;

@@ -7,7 +7,7 @@ use Rattle.ms_record.specs.declared.ballot.Vote.{Vote}
 use Rattle.ms_record.specs.declared.record.Record.{Record}
 use Rattle.ms_record.specs.declared.log.LogEvent.{LogEvent}
 use Rattle.ms_record.specs.declared.log.LogEvent.TheVariants.{Rec, Put, Drop}
-use Rattle.ms_record.specs.Logs.{vote_texts, votes_in}
+use Rattle.ms_record.specs.Logs.{texts_in, vote_texts, votes_in}
 use Rattle.ms_record.specs.Reading.{record_at, votes_of, with_record}
 use Rattle.ms_record.specs.Offers.{IsFirstPromised, Shows, JustifiedBy, GrowsTo}
 use Rattle.ms_record.specs.Votes.{NoneAbove, IsTaken, IsPromised, IsGreatestTaken, IsBest, ChosenBy}
@@ -92,16 +92,16 @@ justified_grows old new voters k b e g h = record {
 abbrev pub LogsGrow : (ℕ → List LogEvent) → (ℕ → List LogEvent) → Type 0
 LogsGrow old new = (s : ℕ) → (more : List LogEvent) × (old s ++ more ≡ new s)
 
-texts_append : (a b : List LogEvent) → vote_texts (a ++ b) ≡ vote_texts a ++ vote_texts b
-texts_append [] b = refl
-texts_append (Rec list text ∷ a) b = by (list.0 == 0) (texts_append a b)
+pub texts_append : (number : ℕ) (a b : List LogEvent) → texts_in number (a ++ b) ≡ texts_in number a ++ texts_in number b
+texts_append number [] b = refl
+texts_append number (Rec list text ∷ a) b = by (list.0 == number) (texts_append number a b)
   where
-    by : (t : Bool) → vote_texts (a ++ b) ≡ vote_texts a ++ vote_texts b
-        → cond t (text ∷ vote_texts (a ++ b)) (vote_texts (a ++ b)) ≡ cond t (text ∷ vote_texts a) (vote_texts a) ++ vote_texts b
+    by : (t : Bool) → texts_in number (a ++ b) ≡ texts_in number a ++ texts_in number b
+        → cond t (text ∷ texts_in number (a ++ b)) (texts_in number (a ++ b)) ≡ cond t (text ∷ texts_in number a) (texts_in number a) ++ texts_in number b
     by true e = ap (λ (l : List (List ℕ)). text ∷ l) e
     by false e = e
-texts_append (Put generation name text ∷ a) b = texts_append a b
-texts_append (Drop floor ∷ a) b = texts_append a b
+texts_append number (Put generation name text ∷ a) b = texts_append number a b
+texts_append number (Drop floor ∷ a) b = texts_append number a b
 
 records_append : (a b : List (List ℕ)) → votes_of (a ++ b) ≡ votes_of a ++ votes_of b
 records_append [] b = refl
@@ -112,7 +112,7 @@ records_append (text ∷ a) b = ap (with_record (record_at text)) (records_appen
     by (Some r) = refl
 
 pub votes_append : (a b : List LogEvent) → votes_in (a ++ b) ≡ votes_in a ++ votes_in b
-votes_append a b = ap votes_of (texts_append a b) ∙ records_append (vote_texts a) (vote_texts b)
+votes_append a b = ap votes_of (texts_append 0 a b) ∙ records_append (vote_texts a) (vote_texts b)
 
 pub votes_grow : (old new : ℕ → List LogEvent) → LogsGrow old new → GrowsTo (λ s. votes_in (old s)) (λ s. votes_in (new s))
 votes_grow old new g s = (votes_in (g s).0, sym (votes_append (old s) (g s).0) ∙ ap votes_in (g s).1)

@@ -14,3 +14,4 @@ pub mod Chains
 pub mod Logs
 pub mod Settings
 pub mod Growing
+pub mod Items

@@ -6,12 +6,16 @@ use Rattle.ms_record.specs.declared.log.LogEvent.TheVariants.{Rec, Put, Drop}
 use Rattle.ms_record.specs.declared.record.Record.{Record}
 use Rattle.ms_record.specs.Reading.{votes_of}
 
--- the texts of list 0, in order
+-- the texts of the list with this number, in order
+abbrev pub texts_in : ℕ → List LogEvent → List (List ℕ)
+texts_in number [] = []
+texts_in number (Rec list text ∷ log) = if list.0 == number then text ∷ texts_in number log else texts_in number log
+texts_in number (Put generation name text ∷ log) = texts_in number log
+texts_in number (Drop floor ∷ log) = texts_in number log
+
+-- the texts of the vote list
 abbrev pub vote_texts : List LogEvent → List (List ℕ)
-vote_texts [] = []
-vote_texts (Rec list text ∷ log) = if list.0 == 0 then text ∷ vote_texts log else vote_texts log
-vote_texts (Put generation name text ∷ log) = vote_texts log
-vote_texts (Drop floor ∷ log) = vote_texts log
+vote_texts log = texts_in 0 log
 
 -- the records of list 0, in order; texts that are none are skipped
 abbrev pub votes_in : List LogEvent → List Record

@@ -1,0 +1,118 @@
+-- Views of the board that services and clients share: what supports an item, and when a view is closed.
+use Rattle.std.specs.Prelude.{◌≡◌, ◌≢◌, ℕ, ◌+◌, ◌<◌, ◌≤◌, ◌⊎◌, List, [], ◌∷◌, ◌++◌, Option, Some, None, Contains}
+use Rattle.sha2.specs.Sha256.{sha256}
+use Rattle.ms_base.specs.declared.names.ClientId.{ClientId}
+use Rattle.ms_base.specs.declared.names.Name.{Name}
+use Rattle.ms_core.specs.Placing.{PlacedBy}
+use Rattle.ms_core.specs.Valid.{IsValid, IsBacked, votes_of_logs}
+use Rattle.ms_ken.specs.Lists.{list_at}
+use Rattle.ms_object.specs.declared.object.Object.TheVariants as objects
+use Rattle.ms_object.specs.Objects.{Spells}
+use Rattle.ms_object.specs.Trees.{Texts, FileText, IsTree}
+use Rattle.ms_record.specs.declared.ballot.Ballot.{Ballot}
+use Rattle.ms_record.specs.declared.entry.Entry.{Entry}
+use Rattle.ms_record.specs.declared.item.Item.{Item}
+use Rattle.ms_record.specs.declared.item.Item.TheVariants.{Log, Offer, Told, Untold}
+use Rattle.ms_record.specs.declared.log.LogEvent.{LogEvent}
+use Rattle.ms_record.specs.declared.log.LogEvent.TheVariants.{Rec, Put, Drop}
+use Rattle.ms_record.specs.declared.record.Record.{Record}
+use Rattle.ms_record.specs.declared.record.Record.TheVariants.{Prepare, Accept}
+use Rattle.ms_record.specs.declared.setting.Setting.{Setting}
+use Rattle.ms_record.specs.Items.{events_of, offers_of_items}
+use Rattle.ms_record.specs.Logs.{HasPut}
+use Rattle.ms_record.specs.Offers.{IsOffered, JustifiedBy}
+use Rattle.ms_record.specs.Plans.{PlanView}
+use Rattle.ms_record.specs.Reading.{record_at}
+use Rattle.ms_record.specs.Settings.{IsSetting}
+use Rattle.ms_record.specs.Votes.{services_below}
+
+-- for each owner a list of items
+abbrev pub View : Type 0
+View = List (List Item)
+
+-- the owners: the services 0 to 15, then the clients 0 to 15, then the configuration
+abbrev pub owner_of_client : ℕ → ℕ
+owner_of_client client = 16 + client
+
+abbrev pub configuration : ℕ
+configuration = 32
+
+abbrev pub all_owners : ℕ
+all_owners = 33
+
+-- the log of each service, and the offers of each client
+abbrev pub log_in : View → ℕ → List LogEvent
+log_in view service = events_of (list_at view service)
+
+abbrev pub offers_told : View → ℕ → List Record
+offers_told view client = offers_of_items (list_at view (owner_of_client client))
+
+-- the vote list of each service
+abbrev pub votes_told : View → ℕ → List Record
+votes_told view = votes_of_logs (log_in view)
+
+-- the store has a version of this name, and these are the files of the tree below its root
+pub record AreFilesOf (store : Texts) (version : Name) (files : List FileText) : Type 0 where
+  pub text : List ℕ
+  pub is : store version.0 ≡ Some text
+  pub client : ClientId
+  pub number : ℕ
+  pub parents : List Name
+  pub root : Name
+  pub spells : Spells text (objects.Version client number parents root)
+  pub tree : IsTree store root files
+
+-- placed, and by texts whose files are something
+pub record IsWhole (logs : ℕ → List LogEvent) (plan : PlanView) (version : Name) : Type 0 where
+  pub placed : PlacedBy (λ s name. HasPut (logs s) plan.generation name) plan version
+  pub files : List FileText
+  pub are : AreFilesOf placed.store version files
+
+-- an Accept that a text of a vote list spells was offered
+abbrev pub SupportsVote : View → List ℕ → Type 0
+SupportsVote view text = (position : ℕ) (ballot : Ballot) (entry : Entry) → record_at text ≡ Some (Accept position ballot entry) → IsOffered (offers_told view) position ballot entry
+
+-- what supports an event of a service's log: a text of a list that has no votes needs nothing
+abbrev pub SupportsEvent : Setting → View → LogEvent → Type 0
+SupportsEvent setting view (Rec list text) = list.0 ≡ 0 → SupportsVote view text
+SupportsEvent setting view (Put generation name text) = name.0 ≡ sha256 text
+SupportsEvent setting view (Drop floor) = IsBacked setting (log_in view) floor
+
+abbrev pub SupportsLog : Setting → View → Item → Type 0
+SupportsLog setting view (Log event) = SupportsEvent setting view event
+SupportsLog setting view (Offer offer) = ⊥
+SupportsLog setting view (Told other) = ⊥
+SupportsLog setting view Untold = ⊥
+
+-- what supports an offer of a client behind its earlier items: it is the client's own, of a greater round than each of those,
+-- follows the rule at a majority, and its entry links on to a linked list with a version that is whole
+pub record SupportsOffer (setting : Setting) (view : View) (client : ℕ) (before : List Item) (position : ℕ) (ballot : Ballot) (entry : Entry) : Type 0 where
+  pub own : ballot.client.0 ≡ client
+  pub later : (k : ℕ) (b : Ballot) (e : Entry) → Contains before (Offer (Accept k b e)) → b.round < ballot.round
+  pub justified : JustifiedBy (votes_told view) (services_below setting.services) position ballot entry
+  pub valid : IsValid setting (log_in view) position entry
+  pub whole : IsWhole (log_in view) valid.plan entry.version
+
+abbrev pub SupportsOwn : Setting → View → ℕ → List Item → Item → Type 0
+SupportsOwn setting view client before (Offer (Accept k b e)) = SupportsOffer setting view client before k b e
+SupportsOwn setting view client before (Offer (Prepare k b)) = ⊥
+SupportsOwn setting view client before (Log event) = ⊥
+SupportsOwn setting view client before (Told other) = ⊥
+SupportsOwn setting view client before Untold = ⊥
+
+-- an item behind those before it is supported where its owner is a service or a client of the setting; no other owner has items
+abbrev pub IsSupported : Setting → View → ℕ → List Item → Item → Type 0
+IsSupported setting view owner before item =
+    ((owner < setting.services) × SupportsLog setting view item)
+    ⊎ ((client : ℕ) × (owner ≡ owner_of_client client) × (client < setting.clients) × SupportsOwn setting view client before item)
+
+-- the configuration tells this setting alone, and every item of the other owners is supported
+pub record TellsSetting (view : View) (setting : Setting) : Type 0 where
+  pub alone : list_at view configuration ≡ Told setting ∷ []
+  pub ranges : IsSetting setting
+  pub supported : (owner : ℕ) (before : List Item) (item : Item) (after : List Item) → owner ≢ configuration → before ++ item ∷ after ≡ list_at view owner
+      → IsSupported setting view owner before item
+
+-- nothing is told; or it is told that nothing is claimed; or a setting is told, and each item is supported
+abbrev pub IsClosed : View → Type 0
+IsClosed view = ((owner : ℕ) → list_at view owner ≡ []) ⊎ ((list_at view configuration ≡ Untold ∷ []) ⊎ ((setting : Setting) × TellsSetting view setting))
