@@ -163,7 +163,7 @@ keeps_bid setting old client round want new few fits s h =
 count_cons : (p : ℕ → Bool) (x : ℕ) (xs : List ℕ) (a : Bool) → p x ≡ a → count_by p (x ∷ xs) ≡ cond a 1 0 + count_by p xs
 count_cons p x xs a e = sum_by-cons (λ s. cond (p s) 1 0) x xs ∙ ap (λ (v : Bool). cond v 1 0 + count_by p xs) e
 
-counted : (p : ℕ → Bool) (xs : List ℕ) → 0 < count_by p xs → (s : ℕ) × (p s ≡ true)
+pub counted : (p : ℕ → Bool) (xs : List ℕ) → 0 < count_by p xs → (s : ℕ) × (p s ≡ true)
 counted p [] h = absurd (omega arith)
 counted p (x ∷ xs) h =
     elim (cases_Bool (p x)) [

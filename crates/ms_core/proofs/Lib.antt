@@ -22,3 +22,6 @@ pub mod Members
 pub mod Wanting
 pub mod Fronts
 pub mod Offering
+pub mod Telling
+pub mod Viewing
+pub mod Following

@@ -1,8 +1,11 @@
 -- Live masters stay placed, whatever was dropped.
-use Rattle.std.proofs.Common.{◌≡◌, ℕ, zero, suc, ◌+◌, ◌≤◌, List, [], ◌∷◌, ◌++◌, Option, Some, None, ◌⊎◌, inl, inr, refl, sym, ap, ◌∙◌, subst, slice_get, length, take, IfSome, arith}
+use Rattle.std.proofs.Common.{◌≡◌, ℕ, zero, suc, ◌+◌, ◌≤◌, List, [], ◌∷◌, ◌++◌, Option, Some, None, ◌⊎◌, inl, inr, refl, sym, ap, ◌∙◌, subst, slice_get, length, take, IfSome, Contains, arith}
 use Rattle.std.proofs.lemmas.List.{length-append}
 use Rattle.std.proofs.lemmas.Option.{slice_get_within}
+use Rattle.ms_base.specs.declared.names.Name.{Name}
 use Rattle.ms_record.specs.declared.entry.Entry.{Entry}
+use Rattle.ms_record.specs.declared.log.LogEvent.{LogEvent}
+use Rattle.ms_record.specs.declared.log.LogEvent.TheVariants.{Drop}
 use Rattle.ms_record.specs.declared.record.Record.{Record}
 use Rattle.ms_record.specs.declared.setting.Setting.{Setting}
 use Rattle.ms_record.specs.Chains.{GoesOn, IsLinked, IsChain, Begins, all_services, generation_in, generation_after}
@@ -10,7 +13,7 @@ use Rattle.ms_record.specs.Logs.{HasPut, Stands}
 use Rattle.ms_record.specs.Plans.{PlanView}
 use Rattle.ms_record.specs.Settings.{IsSetting, origin_of, plan_after, plan_in}
 use Rattle.ms_core.specs.Placing.{IsPlaced, StaysPlaced}
-use Rattle.ms_core.specs.Valid.{IsLive}
+use Rattle.ms_core.specs.Valid.{IsBacked, IsLive, IsValid, votes_of_logs}
 use Rattle.ms_core.specs.Worlds.{WorldView, log_of, votes_of_world}
 use Rattle.ms_core.proofs.Laws.{Laws}
 use Rattle.ms_core.proofs.Places.{some_same}
@@ -71,27 +74,49 @@ begins_lower setting votes a c linked b =
     let whole : take (length a + length b.0) c ≡ c = take_all (length a + length b.0) c (omega (arith, length-append a b.0, ap (λ (l : List Entry). length l) b.1)) in
     omega (arith, rises_many setting votes c linked (length a) (length b.0), ap (generation_in 1) front, ap (generation_in 1) whole)
 
-pub live_placed : (l : Laws) (setting : Setting) (w : WorldView) (chain : List Entry) (i : ℕ) (e : Entry) (plan : PlanView) → IsSetting setting → Inv setting w
-    → IsChain (votes_of_world w) (all_services setting.services) (origin_of setting) chain → IsLive setting chain i e plan → StaysPlaced (log_of w) plan e.version
-live_placed l setting w chain i e plan set h is live =
-    let at = live.member.is in
-    let v = inv_valid setting w h (i + 1) e (record { behind = omega arith; chosen = is.linked.chosen i e at }) in
-    let long : length v.members ≡ i = omega (arith, v.at) in
-    let b = inv_begins l setting w v.members chain h v.linked is.linked (omega (arith, long, slice_get_within chain i e at)) in
-    let front : take i chain ≡ v.members = ap (take i) (sym b.1) ∙ take_at v.members b.0 i long in
-    let same : plan_in setting.genesis.plan (take (i + 1) chain) ≡ Some v.plan =
-    ap (plan_in setting.genesis.plan) (take_next chain i e at ∙ ap (λ (l : List Entry). l ++ e ∷ []) front) ∙ plan_push setting.genesis.plan v.members e ∙ v.plan_is in
-    let equal : v.plan ≡ plan = some_same v.plan plan (sym same ∙ live.member.plan_is) in
-    let placed : IsPlaced (log_of w) plan e.version = subst (λ (p : PlanView). IsPlaced (log_of w) p e.version) equal v.placed in
+-- of a log's linked lists one begins the other
+abbrev pub OneList : Setting → (ℕ → List LogEvent) → Type 0
+OneList setting logs = (a b : List Entry) → IsLinked (votes_of_logs logs) (all_services setting.services) (origin_of setting) a
+    → IsLinked (votes_of_logs logs) (all_services setting.services) (origin_of setting) b → length a ≤ length b → Begins a b
+
+-- each drop has a plan of its generation behind it
+abbrev pub AreBacked : Setting → (ℕ → List LogEvent) → Type 0
+AreBacked setting logs = (s floor : ℕ) → Contains (logs s) (Drop floor) → IsBacked setting logs floor
+
+-- what was put in the generation in force stands
+pub live_stands : (setting : Setting) (logs : ℕ → List LogEvent) (chain : List Entry) (i : ℕ) (e : Entry) (plan : PlanView) → IsSetting setting → OneList setting logs → AreBacked setting logs
+    → IsChain (votes_of_logs logs) (all_services setting.services) (origin_of setting) chain → IsLive setting chain i e plan
+    → (s : ℕ) (name : Name) → HasPut (logs s) plan.generation name → Stands (logs s) plan.generation name
+live_stands setting logs chain i e plan set begins backed is live s name put =
     let current : plan.generation ≡ generation_in 1 chain =
     plan_generation setting.genesis.plan (take (i + 1) chain) set.plan plan set.plan_is live.member.plan_is
     ∙ ap (λ (g : ℕ). generation_in g (take (i + 1) chain)) set.first.generation ∙ live.current in
-    let some : 1 ≤ generation_in 1 chain = begins_lower setting (votes_of_world w) [] chain is.linked (chain, refl) in
-    placed_more (λ s name. HasPut (log_of w s) plan.generation name) (λ s name. Stands (log_of w s) plan.generation name) plan e.version
-    (λ s name put. record {
+    let some : 1 ≤ generation_in 1 chain = begins_lower setting (votes_of_logs logs) [] chain is.linked (chain, refl) in
+    record {
       put = put;
-      kept = λ floor has. elim (h.dropped s floor has) [
+      kept = λ floor has. elim (backed s floor has) [
         | inl low ↦ omega (arith, low, some, current)
-        | inr c ↦ omega (arith, c.2, current, begins_lower setting (votes_of_world w) c.0 chain is.linked (inv_begins l setting w c.0 chain h c.1 is.linked (is.longest c.0 c.1)))
+        | inr c ↦ omega (arith, c.2, current, begins_lower setting (votes_of_logs logs) c.0 chain is.linked (begins c.0 chain c.1 is.linked (is.longest c.0 c.1)))
       ];
-    }) placed
+    }
+
+-- the plan that a valid member was judged by is the one in force there
+pub live_plan : (setting : Setting) (logs : ℕ → List LogEvent) (chain : List Entry) (i : ℕ) (e : Entry) (plan : PlanView) → OneList setting logs
+    → IsChain (votes_of_logs logs) (all_services setting.services) (origin_of setting) chain → IsLive setting chain i e plan → (v : IsValid setting logs (i + 1) e) → v.plan ≡ plan
+live_plan setting logs chain i e plan begins is live v =
+    let at = live.member.is in
+    let long : length v.members ≡ i = omega (arith, v.at) in
+    let b = begins v.members chain v.linked is.linked (omega (arith, long, slice_get_within chain i e at)) in
+    let front : take i chain ≡ v.members = ap (take i) (sym b.1) ∙ take_at v.members b.0 i long in
+    let same : plan_in setting.genesis.plan (take (i + 1) chain) ≡ Some v.plan =
+    ap (plan_in setting.genesis.plan) (take_next chain i e at ∙ ap (λ (l : List Entry). l ++ e ∷ []) front) ∙ plan_push setting.genesis.plan v.members e ∙ v.plan_is in
+    some_same v.plan plan (sym same ∙ live.member.plan_is)
+
+pub live_placed : (l : Laws) (setting : Setting) (w : WorldView) (chain : List Entry) (i : ℕ) (e : Entry) (plan : PlanView) → IsSetting setting → Inv setting w
+    → IsChain (votes_of_world w) (all_services setting.services) (origin_of setting) chain → IsLive setting chain i e plan → StaysPlaced (log_of w) plan e.version
+live_placed l setting w chain i e plan set h is live =
+    let v = inv_valid setting w h (i + 1) e (record { behind = omega arith; chosen = is.linked.chosen i e live.member.is }) in
+    let begins : OneList setting (log_of w) = λ a b la lb short. inv_begins l setting w a b h la lb short in
+    let placed : IsPlaced (log_of w) plan e.version = subst (λ (p : PlanView). IsPlaced (log_of w) p e.version) (live_plan setting (log_of w) chain i e plan begins is live v) v.placed in
+    placed_more (λ s name. HasPut (log_of w s) plan.generation name) (λ s name. Stands (log_of w s) plan.generation name) plan e.version
+    (live_stands setting (log_of w) chain i e plan set begins h.dropped is live) placed

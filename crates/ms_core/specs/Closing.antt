@@ -5,7 +5,7 @@ use Rattle.std.proofs.lemmas.List.Elements.{filter_map-append}
 use mathlib.Core.List.{IsPrefix}
 use Rattle.ms_core.specs.Growth.{valid_grows, backed_grows, put_stays}
 use Rattle.ms_core.specs.Valid.{IsValid}
-use Rattle.ms_core.specs.Views.{View, configuration, owner_of_client, log_in, offers_told, votes_told, IsWhole, SupportsVote, SupportsEvent, SupportsLog, SupportsOffer, SupportsOwn, IsSupported, TellsSetting, IsClosed}
+use Rattle.ms_core.specs.Views.{View, configuration, owner_of_client, log_in, offers_told, votes_told, WholeBy, IsWhole, SupportsVote, SupportsEvent, SupportsLog, SupportsOffer, SupportsOwn, IsSupported, TellsSetting, IsClosed}
 use Rattle.ms_ken.specs.Lists.{list_at, Begins, Agree, longer, longer_lists}
 use Rattle.ms_ken.specs.Prefixes.{longer_by, longer_of_nil, longer_first, prefix_get}
 use Rattle.ms_ken.specs.Rows.{list_at-replicate, list_at-longer_lists, agree_first, agree_second, same_lists, length-longer_lists}
@@ -38,18 +38,23 @@ offered_stays xs ys begins k b e h =
     let q : IsPrefix (offers_told xs b.client.0) (offers_told ys b.client.0) = (filter_map offer_in p.0, sym (filter_map-append offer_in (list_at xs owner) p.0) ∙ ap (filter_map offer_in) p.1) in
     (h.0, prefix_get (offers_told xs b.client.0) (offers_told ys b.client.0) h.0 (Accept k b e) q h.1)
 
-whole_stays : (old new : ℕ → List LogEvent) (plan : PlanView) (version : Name) → LogsGrow old new → IsWhole old plan version → IsWhole new plan version
-whole_stays old new plan version grows h = record {
+-- what is whole by some stays whole by more
+pub whole_more : (has more : ℕ → Name → Type 0) (plan : PlanView) (version : Name) → ((s : ℕ) (name : Name) → has s name → more s name) → WholeBy has plan version → WholeBy more plan version
+whole_more has more plan version goes h = record {
   placed = record {
     store = h.placed.store;
     top = h.placed.top;
     below = h.placed.below;
     named = h.placed.named;
-    put = λ name text there. let e = h.placed.put name text there in record { part = e.part; have = λ s is. put_stays old new s plan.generation name grows (e.have s is); enough = e.enough };
+    put = λ name text there. let e = h.placed.put name text there in record { part = e.part; have = λ s is. goes s name (e.have s is); enough = e.enough };
   };
   files = h.files;
   are = h.are;
 }
+
+whole_stays : (old new : ℕ → List LogEvent) (plan : PlanView) (version : Name) → LogsGrow old new → IsWhole old plan version → IsWhole new plan version
+whole_stays old new plan version grows h =
+    whole_more (λ s name. HasPut (old s) plan.generation name) (λ s name. HasPut (new s) plan.generation name) plan version (λ s name there. put_stays old new s plan.generation name grows there) h
 
 event_stays : (setting : Setting) (xs ys : View) → Begins xs ys → (event : LogEvent) → SupportsEvent setting xs event → SupportsEvent setting ys event
 event_stays setting xs ys begins (Rec list text) h = λ votes k b e spells. offered_stays xs ys begins k b e (h votes k b e spells)

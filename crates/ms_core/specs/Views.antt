@@ -19,7 +19,7 @@ use Rattle.ms_record.specs.declared.record.Record.{Record}
 use Rattle.ms_record.specs.declared.record.Record.TheVariants.{Prepare, Accept}
 use Rattle.ms_record.specs.declared.setting.Setting.{Setting}
 use Rattle.ms_record.specs.Items.{events_of, offers_of_items}
-use Rattle.ms_record.specs.Logs.{HasPut}
+use Rattle.ms_record.specs.Logs.{HasPut, Stands}
 use Rattle.ms_record.specs.Offers.{IsOffered, JustifiedBy}
 use Rattle.ms_record.specs.Plans.{PlanView}
 use Rattle.ms_record.specs.Reading.{record_at}
@@ -62,11 +62,19 @@ pub record AreFilesOf (store : Texts) (version : Name) (files : List FileText) :
   pub spells : Spells text (objects.Version client number parents root)
   pub tree : IsTree store root files
 
--- placed, and by texts whose files are something
-pub record IsWhole (logs : ℕ → List LogEvent) (plan : PlanView) (version : Name) : Type 0 where
-  pub placed : PlacedBy (λ s name. HasPut (logs s) plan.generation name) plan version
+-- placed, and by texts whose files are something, where `has` says what a service has
+pub record WholeBy (has : ℕ → Name → Type 0) (plan : PlanView) (version : Name) : Type 0 where
+  pub placed : PlacedBy has plan version
   pub files : List FileText
   pub are : AreFilesOf placed.store version files
+
+-- whole by puts in the plan's generation, whether they stand or not
+abbrev pub IsWhole : (ℕ → List LogEvent) → PlanView → Name → Type 0
+IsWhole logs plan version = WholeBy (λ s name. HasPut (logs s) plan.generation name) plan version
+
+-- whole by puts that stand
+abbrev pub StaysWhole : (ℕ → List LogEvent) → PlanView → Name → Type 0
+StaysWhole logs plan version = WholeBy (λ s name. Stands (logs s) plan.generation name) plan version
 
 -- an Accept that a text of a vote list spells was offered
 abbrev pub SupportsVote : View → List ℕ → Type 0

@@ -21,6 +21,7 @@ pub mod rule;
 mod service;
 pub mod shown;
 mod state;
+pub mod view_law;
 pub mod world;
 
 pub use client::{Bidding, Request};

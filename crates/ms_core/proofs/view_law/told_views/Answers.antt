@@ -1,0 +1,33 @@
+use Rattle.ms_core.proofs.Laws.{Laws}
+use Rattle.ms_core.proofs.Telling.{tells}
+use Rattle.ms_core.proofs.Viewing.{view_agrees, view_valid, view_linked, view_stands, view_live, views_agree}
+use Rattle.ms_core.proofs.view_law.told_views.Goals as goal
+
+laws : (c : goal.After-one_spelling) → Laws
+laws c = record {
+  one = c.ballots_agree.ensures.one;
+  chosen = c.places_stay.ensures.chosen;
+  justified = c.places_stay.ensures.justified;
+  begins = c.one_chain.ensures.begins;
+  stands = c.one_chain.ensures.stands;
+  goes_on = c.one_chain.ensures.goes_on;
+  read = c.one_spelling.ensures.again;
+}
+
+pub returns-clause-agrees : goal.returns-clause-agrees
+returns-clause-agrees c = λ view setting closed told. view_agrees (laws c) setting view (tells view setting closed told)
+
+pub returns-clause-valid : goal.returns-clause-valid
+returns-clause-valid c = λ view setting closed told k e chosen. view_valid setting view (tells view setting closed told) k e chosen
+
+pub returns-clause-linked : goal.returns-clause-linked
+returns-clause-linked c = λ view setting closed told i e chosen. view_linked (laws c) setting view (tells view setting closed told) i e chosen
+
+pub returns-clause-stands : goal.returns-clause-stands
+returns-clause-stands c = λ view setting chain closed told is i e chosen. view_stands (laws c) setting view chain (tells view setting closed told) is i e chosen
+
+pub returns-clause-live : goal.returns-clause-live
+returns-clause-live c = λ view setting chain closed told is i e plan live. view_live (laws c) setting view chain i e plan (tells view setting closed told) is live
+
+pub returns-clause-one_list : goal.returns-clause-one_list
+returns-clause-one_list c = λ one other setting a b wide p q agree x y la lb. views_agree (laws c) setting one other a b wide p q agree x y la lb

@@ -1,0 +1,104 @@
+//! What holds of every view that is closed, and so of what every thread knows.
+
+ghost use Rattle.std.specs.Prelude.{◌≡◌, ◌≢◌, ◌+◌, ◌<◌, ◌⊎◌, ◌++◌, ◌∷◌, [], ℕ, List, Some, Contains, length, replicate, slice_get};
+ghost use Rattle.sha2.specs.Sha256.{sha256};
+ghost use Rattle.ms_base.specs.declared.names.Name.{Name};
+ghost use Rattle.ms_core.specs.Valid.{IsBacked, IsLive, IsValid};
+ghost use Rattle.ms_core.specs.Views.{View, configuration, owner_of_client, log_in, offers_told, votes_told, IsWhole, StaysWhole, SupportsEvent, SupportsOffer, IsSupported, IsClosed};
+ghost use Rattle.ms_ken.specs.Lists.{list_at, Agree, Begins as BeginsView, MayFollow, longer_lists, with_item};
+ghost use Rattle.ms_record.specs.declared.ballot.Ballot.{Ballot};
+ghost use Rattle.ms_record.specs.declared.entry.Entry.{Entry};
+ghost use Rattle.ms_record.specs.declared.item.Item.{Item};
+ghost use Rattle.ms_record.specs.declared.item.Item.TheVariants.{Log, Offer, Told, Untold};
+ghost use Rattle.ms_record.specs.declared.log.LogEvent.{LogEvent};
+ghost use Rattle.ms_record.specs.declared.log.LogEvent.TheVariants.{Put, Drop};
+ghost use Rattle.ms_record.specs.declared.record.Record.TheVariants.{Accept};
+ghost use Rattle.ms_record.specs.declared.setting.Setting.{Setting};
+ghost use Rattle.ms_record.specs.Chains.{Agrees, Begins, IsChain, IsChosen, IsLinked, all_services};
+ghost use Rattle.ms_record.specs.Offers.{IsOffered, JustifiedBy};
+ghost use Rattle.ms_record.specs.Plans.{PlanView};
+ghost use Rattle.ms_record.specs.Settings.{IsSetting, origin_of};
+ghost use Rattle.ms_record.specs.Votes.{services_below};
+
+use ms_record::law::{ballots_agree, one_chain, places_stay};
+use ms_record::record::one_spelling;
+
+/// For every closed view that tells a setting, which is what every pass of such a board has (`Pass::recall`).
+pub fn told_views()
+    // Two entries chosen at one position are one.
+    ensures agrees { (view : View) (setting : Setting) → IsClosed view → list_at view configuration ≡ Told setting ∷ [] → Agrees (votes_told view) setting.services }
+    // A chosen entry links on to the members before it, and its version is placed, by texts whose files are something.
+    ensures valid { (view : View) (setting : Setting) → IsClosed view → list_at view configuration ≡ Told setting ∷ []
+        → (k : ℕ) (e : Entry) → IsChosen (votes_told view) setting.services k e → (valid : IsValid setting (log_in view) k e) × IsWhole (log_in view) valid.plan e.version }
+    // A chosen entry ends a linked list.
+    ensures linked { (view : View) (setting : Setting) → IsClosed view → list_at view configuration ≡ Told setting ∷ []
+        → (i : ℕ) (e : Entry) → IsChosen (votes_told view) setting.services (i + 1) e
+        → (members : List Entry) × (length members ≡ i) × IsLinked (votes_told view) (all_services setting.services) (origin_of setting) (members ++ e ∷ []) }
+    // A chosen entry stands in the chain at its position.
+    ensures stands { (view : View) (setting : Setting) (chain : List Entry) → IsClosed view → list_at view configuration ≡ Told setting ∷ []
+        → IsChain (votes_told view) (all_services setting.services) (origin_of setting) chain
+        → (i : ℕ) (e : Entry) → IsChosen (votes_told view) setting.services (i + 1) e → slice_get chain i ≡ Some e }
+    // A live master stays placed by puts that stand, whatever was dropped.
+    ensures live { (view : View) (setting : Setting) (chain : List Entry) → IsClosed view → list_at view configuration ≡ Told setting ∷ []
+        → IsChain (votes_told view) (all_services setting.services) (origin_of setting) chain
+        → (i : ℕ) (e : Entry) (plan : PlanView) → IsLive setting chain i e plan → StaysWhole (log_in view) plan e.version }
+    // Of the linked lists of two views that agree, as any two passes' do, one begins the other.
+    ensures one_list { (one other : View) (setting : Setting) (c d : List Entry) → length one ≡ length other → IsClosed one → IsClosed other → Agree one other
+        → list_at one configuration ≡ Told setting ∷ [] → list_at other configuration ≡ Told setting ∷ []
+        → IsLinked (votes_told one) (all_services setting.services) (origin_of setting) c
+        → IsLinked (votes_told other) (all_services setting.services) (origin_of setting) d → Begins c d ⊎ Begins d c }
+{
+    ballots_agree();
+    places_stay();
+    one_chain();
+    one_spelling();
+}
+
+/// What each item of such a view rests on: what has no support is in no view.
+pub fn supports()
+    // No vote is invented: each Accept in a vote list was offered.
+    ensures votes { (view : View) (setting : Setting) → IsClosed view → list_at view configuration ≡ Told setting ∷ []
+        → (service place k : ℕ) (b : Ballot) (e : Entry) → slice_get (votes_told view service) place ≡ Some (Accept k b e) → IsOffered (offers_told view) k b e }
+    // Each offer follows the rule at a majority, and its entry is valid with a version that is placed and whole.
+    ensures offers { (view : View) (setting : Setting) → IsClosed view → list_at view configuration ≡ Told setting ∷ []
+        → (k : ℕ) (b : Ballot) (e : Entry) → IsOffered (offers_told view) k b e
+        → JustifiedBy (votes_told view) (services_below setting.services) k b e × ((valid : IsValid setting (log_in view) k e) × IsWhole (log_in view) valid.plan e.version) }
+    // Each ballot has one offer at a position.
+    ensures one_offer { (view : View) (setting : Setting) → IsClosed view → list_at view configuration ≡ Told setting ∷ []
+        → (k : ℕ) (b : Ballot) (e f : Entry) → IsOffered (offers_told view) k b e → IsOffered (offers_told view) k b f → e ≡ f }
+    // Each put is of the SHA-256 of its text.
+    ensures puts { (view : View) (setting : Setting) → IsClosed view → list_at view configuration ≡ Told setting ∷ []
+        → (service generation : ℕ) (name : Name) (text : List ℕ) → Contains (log_in view service) (Put generation name text) → name.0 ≡ sha256 text }
+    // A drop above generation 1 has a linked list with a plan of at least its generation.
+    ensures drops { (view : View) (setting : Setting) → IsClosed view → list_at view configuration ≡ Told setting ∷ []
+        → (service floor : ℕ) → Contains (log_in view service) (Drop floor) → IsBacked setting (log_in view) floor }
+    // None but the setting's services, its clients and the configuration tell anything.
+    ensures owners { (view : View) (setting : Setting) → IsClosed view → list_at view configuration ≡ Told setting ∷ []
+        → (owner place : ℕ) (item : Item) → slice_get (list_at view owner) place ≡ Some item → owner ≢ configuration
+        → (owner < setting.services) ⊎ ((client : ℕ) × (owner ≡ owner_of_client client) × (client < setting.clients)) }
+{}
+
+/// Every support stays when lists grow; so nothing told is closed, and of two closed views that agree the longer lists.
+pub fn supports_stay()
+    ensures item { (setting : Setting) (old new : View) → BeginsView old new → (owner : ℕ) (before : List Item) (item : Item) → IsSupported setting old owner before item → IsSupported setting new owner before item }
+    ensures nothing { (n : ℕ) → IsClosed (replicate n []) }
+    ensures longer { (one other : View) → length one ≡ length other → IsClosed one → IsClosed other → Agree one other → IsClosed (longer_lists one other) }
+{}
+
+/// Which items may be told.
+pub fn may_follow()
+    // Where the view with an event at the end of an owner's list is closed, the event may follow whatever is known by then.
+    ensures event { (view : View) (owner : ℕ) (event : LogEvent) → owner < length view → IsClosed (with_item view owner (Log event)) → MayFollow IsClosed (length view) view owner (Log event) }
+    // Where a setting is told, an event of a service may follow that the view supports.
+    ensures supported { (view : View) (setting : Setting) (service : ℕ) (event : LogEvent) → list_at view configuration ≡ Told setting ∷ [] → IsSetting setting
+        → service < setting.services → service < length view → SupportsEvent setting view event → MayFollow IsClosed (length view) view service (Log event) }
+    // Where nothing is claimed, any item may follow but the configuration's.
+    ensures untold { (view : View) (owner : ℕ) (item : Item) → list_at view configuration ≡ Untold ∷ [] → owner ≢ configuration → MayFollow IsClosed (length view) view owner item }
+    // A client may tell an offer that the view supports.
+    ensures offer { (view : View) (setting : Setting) (client position : ℕ) (ballot : Ballot) (entry : Entry) → IsClosed view → list_at view configuration ≡ Told setting ∷ []
+        → client < setting.clients → owner_of_client client < length view → SupportsOffer setting view client (list_at view (owner_of_client client)) position ballot entry
+        → IsClosed (with_item view (owner_of_client client) (Offer (Accept position ballot entry))) }
+    // The configuration tells first: a setting in its ranges, or that nothing is claimed.
+    ensures first { (setting : Setting) (owners : ℕ) → IsSetting setting → configuration < owners → IsClosed (with_item (replicate owners []) configuration (Told setting)) }
+    ensures first_untold { (owners : ℕ) → configuration < owners → IsClosed (with_item (replicate owners []) configuration Untold) }
+{}
