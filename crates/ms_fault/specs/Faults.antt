@@ -1,0 +1,103 @@
+-- Scripts of faults, and what each fault does to a call.
+use Rattle.std.specs.Prelude.{◌≡◌, ℕ, ◌+◌, ◌≤◌, ◌&&◌, Bool, true, false, List, [], ◌∷◌, ◌++◌, length, min, bit_xor, Option, Some, None, Result, Ok, Err, ◌⊎◌, slice_index_or}
+use Rattle.std.specs.List.{list_all}
+use Rattle.ms_base.specs.Counts.{Rose}
+use Rattle.ms_base.specs.declared.names.Name.{Name}
+use Rattle.ms_fault.specs.declared.fault.Fault.{Fault}
+use Rattle.ms_fault.specs.declared.fault.Fault.TheVariants as faults
+use Rattle.ms_ken.specs.Known.{Known}
+use Rattle.ms_link.specs.declared.fault.LinkError.{LinkError}
+use Rattle.ms_link.specs.declared.fault.LinkError.TheVariants as errors
+use Rattle.ms_link.specs.Links.{LinkView, Stays, WhereKept, IsAbsent, IsKept, log_known}
+use Rattle.ms_record.specs.declared.item.Item.{Item}
+
+-- a link with faults: the link inside, the script, how many of its faults were met, the fault behind it, and how many calls
+-- it answered `Failed`
+pub record FaultView : Type 0 where
+  pub inner : LinkView
+  pub script : List Fault
+  pub at : ℕ
+  pub rest : Fault
+  pub faults : ℕ
+
+-- the fault that the next call meets
+abbrev pub due : FaultView → Fault
+due f = slice_index_or f.script f.at f.rest
+
+-- the fault hands out what is kept
+abbrev pub shows_kept : Fault → Bool
+shows_kept faults.Alter = false
+shows_kept faults.Gone = false
+shows_kept _ = true
+
+-- as a link: it tells its lists where the link inside does, and its objects where that does and no fault alters or forgets
+abbrev pub link_of : FaultView → LinkView
+link_of f = record {
+  board = f.inner.board;
+  service = f.inner.service;
+  faults = f.faults;
+  lists = f.inner.lists;
+  objects = f.inner.objects && (list_all shows_kept f.script && shows_kept f.rest);
+}
+
+-- a call later: the next fault is due
+pub record IsNext (old new : FaultView) : Type 0 where
+  pub inner : Stays old.inner new.inner
+  pub script : new.script ≡ old.script
+  pub rest : new.rest ≡ old.rest
+  pub at : new.at ≡ min (old.at + 1) (length old.script)
+
+-- the call was made of the link inside; whose faults are next stays
+pub record IsCalled (old new : FaultView) : Type 0 where
+  pub inner : Stays old.inner new.inner
+  pub same : new ≡ record old { inner = new.inner; faults = new.faults }
+  pub later : old.faults ≤ new.faults
+
+abbrev pub HasFailed : {A : Type 0} → Result A LinkError → Type 0
+HasFailed (Ok a) = ⊥
+HasFailed (Err errors.Failed) = Unit {0}
+HasFailed (Err (errors.Stale floor)) = ⊥
+HasFailed (Err errors.NoMemory) = ⊥
+
+-- a call that is passed on fails only where the link inside does
+abbrev pub FailsInside : {A : Type 0} → FaultView → FaultView → Result A LinkError → Type 0
+FailsInside old new (Ok a) = Unit {0}
+FailsInside old new (Err errors.Failed) = Rose old.inner.faults new.inner.faults
+FailsInside old new (Err (errors.Stale floor)) = Unit {0}
+FailsInside old new (Err errors.NoMemory) = Unit {0}
+
+-- a change under this fault
+abbrev pub ChangesBy : Fault → FaultView → FaultView → Known Item → Known Item → Result Unit LinkError → Type 0
+ChangesBy faults.Lose old new before after result = (result ≡ Err errors.Failed) × (after ≡ before)
+ChangesBy faults.ActThenFail old new before after result = result ≡ Err errors.Failed
+ChangesBy (faults.Late later) old new before after result = ((result ≡ Err errors.Failed) ⊎ (result ≡ Err errors.NoMemory)) × (after ≡ before)
+ChangesBy _ old new before after result = FailsInside old new result
+
+-- a call that reads, under this fault
+abbrev pub ReadsBy : {A : Type 0} → Fault → FaultView → FaultView → Known Item → Known Item → Result A LinkError → Type 0
+ReadsBy faults.Lose old new before after result = (result ≡ Err errors.Failed) × (after ≡ before)
+ReadsBy faults.ActThenFail old new before after result = result ≡ Err errors.Failed
+ReadsBy _ old new before after result = FailsInside old new result
+
+abbrev pub HasBy : Fault → FaultView → FaultView → Known Item → Known Item → Result Bool LinkError → Type 0
+HasBy faults.Gone old new before after result = (result ≡ Ok false) × (after ≡ before)
+HasBy fault old new before after result = ReadsBy fault old new before after result
+
+-- the lowest bit of the last byte is flipped; an empty text becomes one zero byte
+abbrev pub IsAltered : List ℕ → List ℕ → Type 0
+IsAltered text other =
+    ((text ≡ []) × (other ≡ 0 ∷ [])) ⊎ ((front : List ℕ) × (last : ℕ) × (text ≡ front ++ last ∷ []) × (other ≡ front ++ bit_xor last 1 ∷ []))
+
+-- where the link inside tells its objects: nothing is kept, or what is handed out is a kept text, altered
+abbrev pub AltersKept : LinkView → Known Item → ℕ → Name → Option (List ℕ) → Type 0
+AltersKept inner after generation name None = WhereKept inner (IsAbsent (log_known inner after) generation name)
+AltersKept inner after generation name (Some other) = WhereKept inner ((text : List ℕ) × IsKept (log_known inner after) generation name text × IsAltered text other)
+
+abbrev pub AltersBy : FaultView → FaultView → Known Item → ℕ → Name → Result (Option (List ℕ)) LinkError → Type 0
+AltersBy old new after generation name (Ok found) = AltersKept old.inner after generation name found
+AltersBy old new after generation name (Err e) = FailsInside {A = Option (List ℕ)} old new (Err e)
+
+abbrev pub GetsBy : Fault → FaultView → FaultView → Known Item → Known Item → ℕ → Name → Result (Option (List ℕ)) LinkError → Type 0
+GetsBy faults.Gone old new before after generation name result = (result ≡ Ok None) × (after ≡ before)
+GetsBy faults.Alter old new before after generation name result = AltersBy old new after generation name result
+GetsBy fault old new before after generation name result = ReadsBy fault old new before after result
