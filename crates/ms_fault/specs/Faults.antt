@@ -5,19 +5,25 @@ use Rattle.ms_base.specs.Counts.{Rose}
 use Rattle.ms_base.specs.declared.names.Name.{Name}
 use Rattle.ms_fault.specs.declared.fault.Fault.{Fault}
 use Rattle.ms_fault.specs.declared.fault.Fault.TheVariants as faults
+use Rattle.ms_base.specs.Memory.{one_more}
+use Rattle.ms_fault.specs.declared.late.LateChange.{LateChange}
+use Rattle.ms_fault.specs.Late.{waiting, sent_late}
 use Rattle.ms_ken.specs.Known.{Known}
 use Rattle.ms_link.specs.declared.fault.LinkError.{LinkError}
 use Rattle.ms_link.specs.declared.fault.LinkError.TheVariants as errors
 use Rattle.ms_link.specs.Links.{LinkView, Stays, WhereKept, IsAbsent, IsKept, log_known}
 use Rattle.ms_record.specs.declared.item.Item.{Item}
+use Rattle.ms_record.specs.declared.log.LogEvent.{LogEvent}
 
--- a link with faults: the link inside, the script, how many of its faults were met, the fault behind it, and how many calls
--- it answered `Failed`
+-- a link with faults: the link inside, the script, how many of its faults were met, the fault behind it, the changes that are
+-- done later, how many calls were made, and how many of them were answered `Failed`
 pub record FaultView : Type 0 where
   pub inner : LinkView
   pub script : List Fault
   pub at : ℕ
   pub rest : Fault
+  pub late : List LateChange
+  pub calls : ℕ
   pub faults : ℕ
 
 -- the fault that the next call meets
@@ -46,6 +52,16 @@ pub record IsNext (old new : FaultView) : Type 0 where
   pub script : new.script ≡ old.script
   pub rest : new.rest ≡ old.rest
   pub at : new.at ≡ min (old.at + 1) (length old.script)
+  pub calls : new.calls ≡ one_more old.calls
+
+-- the changes that still wait once this call has begun: all others were done, in the order in which they were sent
+abbrev pub still_late : FaultView → List LateChange
+still_late f = waiting (one_more f.calls) f.late
+
+-- what waits behind a change under this fault: one that is late waits with what its caller knew
+abbrev pub LateBy : Fault → FaultView → FaultView → Known Item → LogEvent → Result Unit LinkError → Type 0
+LateBy (faults.Late later) old new before event (Err errors.Failed) = new.late ≡ still_late old ++ sent_late new.calls before event later ∷ []
+LateBy _ old new before event result = new.late ≡ still_late old
 
 -- the call was made of the link inside; whose faults are next stays
 pub record IsCalled (old new : FaultView) : Type 0 where

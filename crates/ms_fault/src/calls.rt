@@ -2,7 +2,7 @@
 
 ghost use Rattle.std.specs.Prelude.{◌≡◌, ◌≤◌, length};
 ghost use Rattle.ms_core.specs.Views.{IsClosed};
-ghost use Rattle.ms_fault.specs.Faults.{due, link_of, ChangesBy, ReadsBy, HasBy, GetsBy, IsNext};
+ghost use Rattle.ms_fault.specs.Faults.{due, link_of, still_late, ChangesBy, LateBy, ReadsBy, HasBy, GetsBy, IsNext};
 ghost use Rattle.ms_ken.specs.Lists.{MayFollow};
 ghost use Rattle.ms_link.specs.Links.{IsOnBoard, Stays, Learns, Tells, Puts, Lists, Has, Gets};
 ghost use Rattle.ms_record.specs.declared.item.Item.TheVariants.{Log};
@@ -44,6 +44,7 @@ impl<L: Link<FoldClosed>> Link<FoldClosed> for FaultLink<L> {
         ensures link { Stays (link_of self.old) (link_of self.new) }
         ensures pass { Learns pass.old pass.new }
         ensures script { ChangesBy (due self.old) self.old self.new pass.old pass.new result }
+        ensures late { LateBy (due self.old) self.old self.new pass.old (Rec list text.now) result }
         ensures next { IsNext self.old self.new }
     {
         self.change(alloc, board, pass, Change::Append { list, text })
@@ -62,6 +63,7 @@ impl<L: Link<FoldClosed>> Link<FoldClosed> for FaultLink<L> {
         ensures link { Stays (link_of self.old) (link_of self.new) }
         ensures pass { Learns pass.old pass.new }
         ensures script { ReadsBy (due self.old) self.old self.new pass.old pass.new result }
+        ensures late { self.new.late ≡ still_late self.old }
         ensures next { IsNext self.old self.new }
     {
         match self.meet(alloc, board) {
@@ -93,6 +95,7 @@ impl<L: Link<FoldClosed>> Link<FoldClosed> for FaultLink<L> {
         ensures link { Stays (link_of self.old) (link_of self.new) }
         ensures pass { Learns pass.old pass.new }
         ensures script { ChangesBy (due self.old) self.old self.new pass.old pass.new result }
+        ensures late { LateBy (due self.old) self.old self.new pass.old (Stored generation name.now text.now) result }
         ensures next { IsNext self.old self.new }
     {
         let change = Change::Put {
@@ -116,6 +119,7 @@ impl<L: Link<FoldClosed>> Link<FoldClosed> for FaultLink<L> {
         ensures link { Stays (link_of self.old) (link_of self.new) }
         ensures pass { Learns pass.old pass.new }
         ensures script { HasBy (due self.old) self.old self.new pass.old pass.new result }
+        ensures late { self.new.late ≡ still_late self.old }
         ensures next { IsNext self.old self.new }
     {
         match self.meet(alloc, board) {
@@ -145,6 +149,7 @@ impl<L: Link<FoldClosed>> Link<FoldClosed> for FaultLink<L> {
         ensures link { Stays (link_of self.old) (link_of self.new) }
         ensures pass { Learns pass.old pass.new }
         ensures script { GetsBy (due self.old) self.old self.new pass.old pass.new generation name.now result }
+        ensures late { self.new.late ≡ still_late self.old }
         ensures next { IsNext self.old self.new }
     {
         match self.meet(alloc, board) {
@@ -182,6 +187,7 @@ impl<L: Link<FoldClosed>> Link<FoldClosed> for FaultLink<L> {
         ensures link { Stays (link_of self.old) (link_of self.new) }
         ensures pass { Learns pass.old pass.new }
         ensures script { ChangesBy (due self.old) self.old self.new pass.old pass.new result }
+        ensures late { LateBy (due self.old) self.old self.new pass.old (Dropped generation) result }
         ensures next { IsNext self.old self.new }
     {
         self.change(alloc, board, pass, Change::DropBelow { generation })

@@ -1,10 +1,11 @@
 //! A link whose calls meet the faults of a script.
 
-ghost use Rattle.std.specs.Prelude.{◌≡◌, ◌≤◌, ◌⊎◌, length};
+ghost use Rattle.std.specs.Prelude.{◌≡◌, ◌≤◌, ◌⊎◌, ◌++◌, ◌∷◌, [], OnOk, OnErr, length};
 ghost use Rattle.ms_base.specs.Counts.{Causes, Rose};
 ghost use Rattle.ms_core.specs.Views.{IsClosed};
 ghost use Rattle.ms_fault.specs.Changes.{event_of, size_of, Changes};
-ghost use Rattle.ms_fault.specs.Faults.{due, link_of, HasFailed, IsCalled, IsNext, FailsInside, ChangesBy};
+ghost use Rattle.ms_fault.specs.Faults.{due, link_of, still_late, HasFailed, IsCalled, IsNext, FailsInside, ChangesBy, LateBy};
+ghost use Rattle.ms_fault.specs.Late.{sent_late};
 ghost use Rattle.ms_ken.specs.Lists.{MayFollow};
 ghost use Rattle.ms_link.specs.declared.fault.LinkError.TheVariants as errors;
 ghost use Rattle.ms_link.specs.Links.{IsOnBoard, Learns};
@@ -39,7 +40,7 @@ impl<L: Link<FoldClosed>> Model for FaultLink<L> {
 
     ghost Value = { FaultView };
 
-    ghost view = { λ f. record { inner = L.sees f.inner; script = f.script.items; at = f.at; rest = f.rest; faults = f.faults } };
+    ghost view = { λ f. record { inner = L.sees f.inner; script = f.script.items; at = f.at; rest = f.rest; late = f.late.items; calls = f.calls; faults = f.faults } };
 
     ghost invariant = { λ f. All (IsDue (L.sees f.inner)) f.late.items × (f.at ≤ length f.script.items) };
 }
@@ -47,7 +48,7 @@ impl<L: Link<FoldClosed>> Model for FaultLink<L> {
 impl<L: Link<FoldClosed>> FaultLink<L> {
     /// The i-th call meets the i-th fault of the script, and later calls meet `rest`.
     pub fn new(alloc: Global, inner: L, script: Vec<Fault>, rest: Fault) -> FaultLink<L>
-        ensures { result ≡ record { inner = L.sees inner; script = script.items; at = 0; rest = rest; faults = 0 } }
+        ensures { result ≡ record { inner = L.sees inner; script = script.items; at = 0; rest = rest; late = []; calls = 0; faults = 0 } }
     {
         FaultLink {
             inner,
@@ -65,6 +66,7 @@ impl<L: Link<FoldClosed>> FaultLink<L> {
         requires { board.now ≡ self.old.inner.board }
         ensures fault { result ≡ due self.old }
         ensures next { IsNext self.old self.new }
+        ensures late { self.new.late ≡ still_late self.old }
         ensures faults { self.new.faults ≡ self.old.faults }
     {
         self.calls = self.calls.saturating_add(1);
@@ -154,7 +156,9 @@ impl<L: Link<FoldClosed>> FaultLink<L> {
         requires closed { MayFollow IsClosed self.old.inner.board.words pass.old.lists self.old.inner.service (Log (event_of change)) }
         ensures fault { (result ≡ errors.Failed) ⊎ (result ≡ errors.NoMemory) }
         ensures rose { result ≡ errors.Failed → Rose self.old.faults self.new.faults }
-        ensures call { IsCalled self.old self.new }
+        ensures waits { result ≡ errors.Failed → self.new ≡ record self.old { late = self.old.late ++ sent_late self.old.calls pass.old (event_of change.entry) after ∷ []; faults = self.new.faults } }
+        ensures lost { result ≡ errors.NoMemory → self.new ≡ self.old }
+        ensures later { self.old.faults ≤ self.new.faults }
         ensures pass { pass.new ≡ pass.old }
     {
         match self.keep_late(alloc, board, pass, change, after) {
@@ -175,7 +179,8 @@ impl<L: Link<FoldClosed>> FaultLink<L> {
         requires board { IsOnBoard self.old.inner board.now pass.old }
         requires short { size_of (event_of change) ≤ MOST_OBJECT }
         requires closed { MayFollow IsClosed self.old.inner.board.words pass.old.lists self.old.inner.service (Log (event_of change)) }
-        ensures same { self.new ≡ self.old }
+        ensures waits { OnOk result (self.new ≡ record self.old { late = self.old.late ++ sent_late self.old.calls pass.old (event_of change.entry) after ∷ [] }) }
+        ensures lost { OnErr result (self.new ≡ self.old) }
         ensures pass { pass.new ≡ pass.old }
     {
         let event = kept(alloc, change)?;
@@ -200,6 +205,7 @@ impl<L: Link<FoldClosed>> FaultLink<L> {
         requires closed { MayFollow IsClosed (link_of self.old).board.words pass.old.lists (link_of self.old).service (Log (event_of change)) }
         ensures changes { Changes (link_of self.old) (link_of self.new) pass.old pass.new (event_of change.entry) result }
         ensures script { ChangesBy (due self.old) self.old self.new pass.old pass.new result }
+        ensures late { LateBy (due self.old) self.old self.new pass.old (event_of change.entry) result }
         ensures next { IsNext self.old self.new }
         ensures later { self.old.faults ≤ self.new.faults }
         ensures pass { Learns pass.old pass.new }

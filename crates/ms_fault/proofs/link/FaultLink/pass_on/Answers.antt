@@ -19,7 +19,7 @@ invariant_of-self g c = (all_due (g.L.Link.sees c.self.inside.inner) (g.L.Link.s
 pub returns-clause-changes : goal.returns-clause-changes
 returns-clause-changes g c =
     let inside = c.self.inside in
-    let before : FaultView = record { inner = g.L.Link.sees inside.inner; script = inside.script.items; at = inside.at; rest = inside.rest; faults = inside.faults } in
+    let before : FaultView = record { inner = g.L.Link.sees inside.inner; script = inside.script.items; at = inside.at; rest = inside.rest; late = inside.late.items; calls = inside.calls; faults = inside.faults } in
     subst (λ (f : FaultView). Changes (link_of f) (link_of c.counted.new.self) c.args.pass.now c.send-answer.new.pass (event_of c.args.change) c.counted.result) c.self.view_is
     (changes_counted before c.counted.new.self (g.L.Link.sees c.send-answer.new.link) c.args.pass.now c.send-answer.new.pass (event_of c.args.change) c.send-answer.result c.counted.result
     (ap (λ (f : FaultView). f.inner) c.counted.ensures.same) c.counted.ensures.answer c.counted.ensures.count.rose c.send-answer.ensures.changes)
