@@ -210,7 +210,8 @@ impl<L: Link<FoldClosed>> FaultLink<L> {
         ensures later { self.old.faults ≤ self.new.faults }
         ensures pass { Learns pass.old pass.new }
     {
-        match self.meet(alloc, board) {
+        let fault = self.meet(alloc, board);
+        match fault {
             Fault::Lose => Err(self.fail()),
             Fault::ActThenFail => Err(self.act_then_fail(alloc, board, pass, change)),
             Fault::Late { after } => Err(self.delay(alloc, board, pass, change, after)),
