@@ -37,7 +37,7 @@ filter_twice p xs = filter_both p p xs ∙ filter_agree (λ x. p x && p x) p (λ
 abbrev pub differs : ServiceId → ServiceId → Bool
 differs service other = not (other.0 == service.0)
 
-same_service : (s t : ServiceId) → (s.0 == t.0) ≡ true → s ≡ t
+pub same_service : (s t : ServiceId) → (s.0 == t.0) ≡ true → s ≡ t
 same_service s t h = let e : s.0 ≡ t.0 = eqb-true s.0 t.0 h in λ i. record { 0 = e i }
 
 -- a service can be left out before the first occurrences are kept, or afterwards

@@ -1,3 +1,5 @@
 mod Sorting
 mod Firsts
 mod Ordering
+mod Services
+mod Staying

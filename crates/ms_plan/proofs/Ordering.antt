@@ -61,11 +61,11 @@ map_map : {X Y Z : Type 0} (f : Y → Z) (g : X → Y) (xs : List X) → map f (
 map_map f g [] = refl
 map_map f g (x ∷ xs) = ap (λ zs. f (g x) ∷ zs) (map_map f g xs)
 
-map-append : {X Y : Type 0} (f : X → Y) (xs ys : List X) → map f (xs ++ ys) ≡ map f xs ++ map f ys
+pub map-append : {X Y : Type 0} (f : X → Y) (xs ys : List X) → map f (xs ++ ys) ≡ map f xs ++ map f ys
 map-append f [] ys = refl
 map-append f (x ∷ xs) ys = ap (λ zs. f x ∷ zs) (map-append f xs ys)
 
-abbrev services : List ServiceCopy → List ServiceId
+abbrev pub services : List ServiceCopy → List ServiceId
 services copies = map (λ c. c.service) copies
 
 -- ---- one sorted list
@@ -106,7 +106,7 @@ filter-append p (x ∷ xs) ys =
       | false ↦ filter-append p xs ys
     ]
 
-abbrev numbered : ServiceId → List ℕ → List ServiceCopy
+abbrev pub numbered : ServiceId → List ℕ → List ServiceCopy
 numbered s numbers = map (λ copy. record { service = s; copy = copy }) numbers
 
 -- the copies of one service stay or go together
