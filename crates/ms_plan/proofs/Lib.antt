@@ -3,3 +3,5 @@ mod Firsts
 mod Ordering
 mod Services
 mod Staying
+mod Slots
+mod Filling

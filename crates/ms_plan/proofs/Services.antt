@@ -109,4 +109,4 @@ services_permute plan slot h =
         ∙ sym (times_agree (λ t. is_eq (compare_services s t)) (is_service s) (firsts (services (sorted (compare_at slot) (copies_in plan)))) (is_at_service s)))
 
 pub length-order : (plan : PlanView) (slot : ℕ) → IsPlan plan → length (order_at plan slot) ≡ length plan.rows
-length-order plan slot h = length_permutation (services_of plan) (order_at plan slot) (services_permute plan slot h) ∙ length-map (λ (row : PlanRow). row.service) plan.rows
+length-order plan slot h = length_permutation (services_of plan) (order_at plan slot) (services_permute plan slot h) ∙ length-map plan.rows (λ (row : PlanRow). row.service)
