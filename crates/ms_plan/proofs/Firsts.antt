@@ -105,8 +105,8 @@ firsts-push (x ∷ xs) y =
         | false ↦ ap (λ zs. x ∷ zs) (filter-append (differs x) (firsts xs) (y ∷ []) ∙ ap (λ (b : Bool). without x (firsts xs) ++ cond (not b) (y ∷ []) []) (eq_turned y.0 x.0 ∙ e) ∙ append-nil (without x (firsts xs)))
       ]
       | false ↦ λ e. ap (λ (d : Bool). x ∷ without x (cond d (firsts xs) (firsts xs ++ y ∷ []))) (sym (any-filter (λ z. z.0 == y.0) (differs x) (firsts xs) (λ z. grind (arith, nat_tests))))
-        ∙ elim (holds_service y (without x (firsts xs))) as (λ (d : Bool). x ∷ without x (cond d (firsts xs) (firsts xs ++ y ∷ [])) ≡ cond d (x ∷ without x (firsts xs)) (x ∷ without x (firsts xs) ++ y ∷ [])) [
-          | true ↦ refl
-          | false ↦ ap (λ zs. x ∷ zs) (filter-append (differs x) (firsts xs) (y ∷ []) ∙ ap (λ (b : Bool). without x (firsts xs) ++ cond (not b) (y ∷ []) []) (eq_turned y.0 x.0 ∙ e))
-        ]
+          ∙ elim (holds_service y (without x (firsts xs))) as (λ (d : Bool). x ∷ without x (cond d (firsts xs) (firsts xs ++ y ∷ [])) ≡ cond d (x ∷ without x (firsts xs)) (x ∷ without x (firsts xs) ++ y ∷ [])) [
+            | true ↦ refl
+            | false ↦ ap (λ zs. x ∷ zs) (filter-append (differs x) (firsts xs) (y ∷ []) ∙ ap (λ (b : Bool). without x (firsts xs) ++ cond (not b) (y ∷ []) []) (eq_turned y.0 x.0 ∙ e))
+          ]
     ] refl

@@ -131,7 +131,7 @@ pub order-without : (plan other : PlanView) (s : ServiceId) (slot : ℕ) → IsW
 unfolding order_at
 order-without plan other s slot h =
     let rows : copies_in other ≡ filter (other_copy s) (copies_in plan) =
-        ap (λ (unit : ℕ). flat_map (copies_of unit) other.rows) h.unit ∙ ap (λ (rows : List PlanRow). flat_map (copies_of plan.unit) rows) h.rows ∙ copies-without s plan.unit plan.rows in
+    ap (λ (unit : ℕ). flat_map (copies_of unit) other.rows) h.unit ∙ ap (λ (rows : List PlanRow). flat_map (copies_of plan.unit) rows) h.rows ∙ copies-without s plan.unit plan.rows in
     ap (λ cs. firsts (services (sorted (compare_at slot) cs))) rows
     ∙ ap (λ cs. firsts (services cs)) (sorted-filter (compare_at_total slot) (compare_at_same slot) (other_copy s) (copies_in plan))
     ∙ ap firsts (services-filter s (sorted (compare_at slot) (copies_in plan)))

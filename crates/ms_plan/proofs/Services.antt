@@ -54,9 +54,9 @@ services_once s [] rising = refl
 services_once s (r ∷ rs) rising =
     elim (s.0 == r.service.0) as (λ (b : Bool). (s.0 == r.service.0) ≡ b → cond b 1 0 + times (is_service s) (row_services rs) ≡ cond (b || list_any (is_service s) (row_services rs)) 1 0) [
       | true ↦ λ e.
-        let same : s.0 ≡ r.service.0 = eqb-true s.0 r.service.0 e in
-        let none : times (is_service s) (row_services rs) ≡ 0 = times_of_none (is_service s) (row_services rs) (none_later s rs (Rising-tail r rs rising) (λ row f. let next : r.service.0 < row.service.0 = rising 0 r row refl f in omega arith)) in
-        omega (arith, none)
+          let same : s.0 ≡ r.service.0 = eqb-true s.0 r.service.0 e in
+          let none : times (is_service s) (row_services rs) ≡ 0 = times_of_none (is_service s) (row_services rs) (none_later s rs (Rising-tail r rs rising) (λ row f. let next : r.service.0 < row.service.0 = rising 0 r row refl f in omega arith)) in
+          omega (arith, none)
       | false ↦ λ e. let k = services_once s rs (Rising-tail r rs rising) in omega (arith, k)
     ] refl
 
@@ -98,15 +98,15 @@ pub services_permute : (plan : PlanView) (slot : ℕ) → IsPlan plan → IsPerm
 unfolding order_at
 services_permute plan slot h =
     let moved : IsPermutation (services (copies_in plan)) (services (sorted (compare_at slot) (copies_in plan))) =
-        IsPermutation-map (λ (c : ServiceCopy). c.service) (copies_in plan) (sorted (compare_at slot) (copies_in plan)) (sorted_permutes (compare_at slot) (copies_in plan)) in
+    IsPermutation-map (λ (c : ServiceCopy). c.service) (copies_in plan) (sorted (compare_at slot) (copies_in plan)) (sorted_permutes (compare_at slot) (copies_in plan)) in
     let there : (s : ServiceId) → list_any (is_service s) (services (sorted (compare_at slot) (copies_in plan))) ≡ list_any (is_service s) (services_of plan) =
-        λ s. sym (list_any-IsPermutation (is_service s) (services (copies_in plan)) (services (sorted (compare_at slot) (copies_in plan))) moved)
-            ∙ any_copies (is_service s) plan.unit plan.rows (λ i row e. (h.rows i row e).some_copies) in
+    λ s. sym (list_any-IsPermutation (is_service s) (services (copies_in plan)) (services (sorted (compare_at slot) (copies_in plan))) moved)
+    ∙ any_copies (is_service s) plan.unit plan.rows (λ i row e. (h.rows i row e).some_copies) in
     let count : (s : ServiceId) → times (is_service s) (services_of plan) ≡ times (is_service s) (firsts (services (sorted (compare_at slot) (copies_in plan)))) =
-        λ s. services_once s plan.rows h.rising ∙ ap {B = ℕ} (λ (b : Bool). cond b 1 0) (sym (there s)) ∙ sym (times-firsts s (services (sorted (compare_at slot) (copies_in plan)))) in
+    λ s. services_once s plan.rows h.rising ∙ ap {B = ℕ} (λ (b : Bool). cond b 1 0) (sym (there s)) ∙ sym (times-firsts s (services (sorted (compare_at slot) (copies_in plan)))) in
     permutation_from_times (on_total (λ (s : ServiceId). s.0) nat_cmp_total) compare_services_same (services_of plan) (firsts (services (sorted (compare_at slot) (copies_in plan))))
     (λ s. times_agree (λ t. is_eq (compare_services s t)) (is_service s) (services_of plan) (is_at_service s) ∙ count s
-        ∙ sym (times_agree (λ t. is_eq (compare_services s t)) (is_service s) (firsts (services (sorted (compare_at slot) (copies_in plan)))) (is_at_service s)))
+    ∙ sym (times_agree (λ t. is_eq (compare_services s t)) (is_service s) (firsts (services (sorted (compare_at slot) (copies_in plan)))) (is_at_service s)))
 
 pub length-order : (plan : PlanView) (slot : ℕ) → IsPlan plan → length (order_at plan slot) ≡ length plan.rows
 length-order plan slot h = length_permutation (services_of plan) (order_at plan slot) (services_permute plan slot h) ∙ length-map plan.rows (λ (row : PlanRow). row.service)

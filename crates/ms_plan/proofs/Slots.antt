@@ -54,8 +54,8 @@ holds_more plan slots orders more rules h is =
     let count : ℕ = length plan.rows in
     let long : length (order_at plan slots) ≡ count = length-order plan slots rules in
     let each : (slot : ℕ) → slot < slots + 1 → take count (drop (slot * count) (orders ++ order_at plan slots)) ≡ order_at plan slot =
-        λ slot below. elim (cases_lt slot slots) [
-          | inl before ↦ part_before (slot * count) count orders (order_at plan slots) (omega (arith, next_below slot slots count before, h.wide)) ∙ h.each slot before
-          | inr after ↦ last_part plan slot slots orders rules h (omega arith)
-        ] in
+    λ slot below. elim (cases_lt slot slots) [
+      | inl before ↦ part_before (slot * count) count orders (order_at plan slots) (omega (arith, next_below slot slots count before, h.wide)) ∙ h.each slot before
+      | inr after ↦ last_part plan slot slots orders rules h (omega arith)
+    ] in
     subst (HoldsOrders plan (slots + 1)) (sym is) (record { wide = omega (arith, length-append orders (order_at plan slots), h.wide, long); each = each })

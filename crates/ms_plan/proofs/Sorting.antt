@@ -52,7 +52,7 @@ put_permutes compare x [] = IsPermutation-refl (x ∷ [])
 put_permutes compare x (y ∷ ys) =
     elim (is_lt (compare y x)) as (λ (b : Bool). IsPermutation (x ∷ y ∷ ys) (cond b (y ∷ put_sorted compare x ys) (x ∷ y ∷ ys))) [
       | true ↦ IsPermutation-trans (x ∷ y ∷ ys) (y ∷ x ∷ ys) (y ∷ put_sorted compare x ys) (IsPermutation-swap (x ∷ y ∷ ys) (y ∷ x ∷ ys) 0 1 (omega arith) (omega arith) refl)
-        (IsPermutation-cons y (x ∷ ys) (put_sorted compare x ys) (put_permutes compare x ys))
+          (IsPermutation-cons y (x ∷ ys) (put_sorted compare x ys) (put_permutes compare x ys))
       | false ↦ IsPermutation-refl (x ∷ y ∷ ys)
     ]
 

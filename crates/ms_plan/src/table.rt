@@ -47,7 +47,10 @@ impl Table {
         for slot in 0..SLOTS {
             scratch.push_order(plan, slot, &mut orders)?;
         }
-        Ok(Table { plan: *plan, orders })
+        Ok(Table {
+            plan: *plan,
+            orders,
+        })
     }
 
     /// All services of the plan, each once, in the order in which they are to hold the object of that name.

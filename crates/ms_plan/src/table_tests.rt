@@ -18,12 +18,7 @@ fn row(service: u32, capacity: u64) -> PlanRow {
 }
 
 /// The table of a plan of generation 1 with these replicas, this unit and these rows.
-fn table(
-    alloc: Global,
-    replicas: u32,
-    unit: u64,
-    rows: &[PlanRow],
-) -> Result<Table, &'static str> {
+fn table(alloc: Global, replicas: u32, unit: u64, rows: &[PlanRow]) -> Result<Table, &'static str> {
     let plan = Plan::new(1, 1, replicas, unit, rows).ok_or("a plan")?;
     Table::new(alloc, &plan).ok().ok_or("memory")
 }
@@ -48,20 +43,27 @@ fn are(services: &[ServiceId], numbers: &[u32]) -> bool {
 
 /// Whether the first is the second without that service.
 fn is_without(short: &[ServiceId], long: &[ServiceId], service: ServiceId) -> bool {
-    let mut others = short.iter();
+    let mut next = 0;
     for place in long {
-        if *place != service && others.next() != Some(place) {
-            return false;
+        if *place != service {
+            if next >= short.len() || short[next] != *place {
+                return false;
+            }
+            next += 1;
         }
     }
-    others.next().is_none()
+    next == short.len()
 }
 
 #[test]
 fn mapping_of_the_empty_blob(rt: HostRuntime) -> Result<(), Fail> {
     let alloc = rt.alloc();
     let rows = [row(0, 1000), row(1, 1000), row(2, 1000)];
-    let blob = Name(<[u8; 32] as hex::FromHex>::from_hex(EMPTY_BLOB.as_bytes()).ok().ok_or("a name")?);
+    let blob = Name(
+        <[u8; 32] as hex::FromHex>::from_hex(EMPTY_BLOB.as_bytes())
+            .ok()
+            .ok_or("a name")?,
+    );
     let three = table(alloc, 2, 1000, &rows)?;
     assert!(rt; are(three.order(&blob), &[2, 0, 1]));
     assert!(rt; are(three.places(&blob), &[2, 0]));

@@ -10,5 +10,5 @@ pub returns-clause-all : goal.returns-clause-all
 returns-clause-all c =
     let below : c.slot.result < 1024 = omega (arith, c.slot.ensures) in
     let found = found_permutes c.self.inside.plan 1024 c.slot.result (length c.rows-services.result.now) c.deref.result.now c.self.invariant.rules
-        (subst (HoldsOrders c.self.inside.plan 1024) (sym c.deref.ensures.value) c.self.invariant.orders) below (ap length c.rows-services.ensures.rows) in
+    (subst (HoldsOrders c.self.inside.plan 1024) (sym c.deref.ensures.value) c.self.invariant.orders) below (ap length c.rows-services.ensures.rows) in
     rw (sym c.self.view_is) found
