@@ -138,3 +138,17 @@ fn orders_without_a_service(rt: HostRuntime) -> Result<(), Fail> {
     }
     Ok(())
 }
+
+/// Sixteen services of 16 copies each.
+#[test]
+fn largest_table(rt: HostRuntime) -> Result<(), Fail> {
+    let alloc = rt.alloc();
+    let mut rows = [row(0, 16); 16];
+    for i in 0..16u32 {
+        rows[i as usize] = row(i, 16);
+    }
+    let table = table(alloc, 16, 1, &rows)?;
+    let order = [15, 3, 5, 13, 14, 6, 9, 12, 0, 4, 11, 2, 8, 1, 7, 10];
+    assert!(rt; are(table.places(&name_in(0)), &order));
+    Ok(())
+}
