@@ -3,7 +3,7 @@
 
 pub mod table;
 
-pub use table::Table;
+pub use table::{Table, orders_are_sorted, stability};
 
 #[cfg(test)]
 mod table_tests;
