@@ -1,27 +1,25 @@
 -- The order of a slot.
-use Rattle.std.proofs.Common.{◌≡◌, ℕ, zero, suc, ◌+◌, ◌<◌, ◌≤◌, Bool, true, false, not, cond, List, [], ◌∷◌, ◌++◌, length, map, Some, slice_get, refl, sym, ap, subst, ◌∙◌, arith}
-use Rattle.std.specs.Prelude.{◌&&◌, ◌||◌, ◌==◌, ◌/◌}
+use Rattle.std.proofs.Common.{◌≡◌, ℕ, Bool, true, false, not, cond, List, [], ◌∷◌, ◌++◌, map, refl, sym, ap, ◌∙◌}
+use Rattle.std.specs.Prelude.{◌==◌, ◌/◌}
 use Rattle.std.specs.declared.cmp.Ordering.{Ordering}
 use Rattle.std.specs.declared.cmp.Ordering.TheVariants.{Less, Equal, Greater}
-use Rattle.std.specs.Ordering.{nat_cmp, ordering_then, is_lt, is_eq}
+use Rattle.std.specs.Ordering.{nat_cmp, ordering_then, is_eq}
 use Rattle.std.specs.Cmp.{IsTotalOrder}
 use Rattle.std.specs.Cmp.Lexicographic.{slice_cmp}
 use Rattle.std.specs.FinMap.{nat_cmp-IsAntisymmetric, slice_cmp-IsAntisymmetric}
-use Rattle.std.specs.List.{filter, flat_map, list_any, range_with_len}
+use Rattle.std.specs.List.{filter, flat_map, range_with_len}
 use Rattle.std.specs.List.Sorted.{IsPermutation, IsSorted}
 use Rattle.std.proofs.lemmas.Bool.{false≢true}
 use Rattle.std.proofs.lemmas.Cmp.{nat_cmp_total, on_total, then_total, nat_list_cmp_total}
-use Rattle.std.proofs.lemmas.List.Folds.{list_any-append}
-use Rattle.std.proofs.lemmas.List.Sorted.{list_any-IsPermutation, IsPermutation-map}
 use Rattle.md5.specs.Md5.{md5}
 use Rattle.ms_base.specs.declared.names.ServiceId.{ServiceId}
 use Rattle.ms_record.specs.declared.plan.PlanRow.{PlanRow}
-use Rattle.ms_record.specs.Plans.{PlanView, IsPlan, IsRow}
+use Rattle.ms_record.specs.Plans.{PlanView}
 use Rattle.ms_plan.specs.declared.table.copies.KeyedCopy.{KeyedCopy}
-use Rattle.ms_plan.specs.Mapping.{ServiceCopy, IsWithout, copies_of, copies_in, key_text, compare_at, sorted, without, firsts, order_at, services_of}
+use Rattle.ms_plan.specs.Mapping.{ServiceCopy, IsWithout, copies_of, copies_in, key_text, compare_at, sorted, without, firsts, order_at}
 use Rattle.ms_plan.specs.TableInside.{keyed}
-use Rattle.ms_plan.proofs.Sorting.{sorted_permutes, sorted_only, sorted-filter, sorted-map, rises_from_sorted, permutation_from_times, times}
-use Rattle.ms_plan.proofs.Firsts.{firsts-without, times-firsts, times_agree, is_service, differs}
+use Rattle.ms_plan.proofs.Sorting.{sorted_only, sorted-filter, sorted-map, rises_from_sorted}
+use Rattle.ms_plan.proofs.Firsts.{firsts-without, differs}
 
 -- ---- the order of copies
 

@@ -1,4 +1,3 @@
-use Rattle.std.proofs.Common.{ℕ}
 use Rattle.ms_plan.specs.Mapping.{copies_in, compare_at}
 use Rattle.ms_plan.proofs.Sorting.{sorted_permutes, rises_sorted, sorted_from_rises}
 use Rattle.ms_plan.proofs.Ordering.{compare_at_total, order_of_sorted}

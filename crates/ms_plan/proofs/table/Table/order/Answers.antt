@@ -1,7 +1,4 @@
-use Rattle.std.proofs.Common.{◌≡◌, ◌<◌, ◌+◌, ◌-◌, ◌*◌, ap, sym, length, take, drop, arith, subst}
-use Rattle.std.specs.List.Sorted.{IsPermutation}
-use Rattle.ms_record.specs.Plans.{PlanView}
-use Rattle.ms_plan.specs.Mapping.{services_of}
+use Rattle.std.proofs.Common.{◌<◌, ap, sym, length, arith, subst}
 use Rattle.ms_plan.specs.TableInside.{HoldsOrders}
 use Rattle.ms_plan.proofs.Slots.{found_permutes}
 use Rattle.ms_plan.proofs.table.Table.order.Goals as goal

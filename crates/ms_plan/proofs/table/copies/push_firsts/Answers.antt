@@ -1,4 +1,4 @@
-use Rattle.std.proofs.Common.{rules, ap, sym, ◌∙◌}
+use Rattle.std.proofs.Common.{rules, ap, ◌∙◌}
 use Rattle.ms_plan.proofs.Filling.{firsts_more, when_found, when_new}
 use Rattle.ms_plan.proofs.table.copies.push_firsts.Goals as goal
 use Rattle.ms_plan.proofs.table.copies.push_firsts.Goals.{then-not-contains+in_ok-push, else-not-contains}
