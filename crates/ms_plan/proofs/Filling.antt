@@ -1,5 +1,5 @@
 -- Orders and copies that grow, one item after another.
-use Rattle.std.proofs.Common.{◌≡◌, ℕ, zero, suc, ◌+◌, ◌-◌, ◌<◌, ◌≤◌, Bool, true, false, cond, List, [], ◌∷◌, ◌++◌, length, take, drop, map, get_or, refl, sym, ap, subst, ◌∙◌, append_assoc, arith}
+use Rattle.std.proofs.Common.{◌≡◌, ℕ, ◌+◌, ◌-◌, ◌<◌, Bool, true, false, cond, List, [], ◌∷◌, ◌++◌, length, take, drop, map, get_or, refl, sym, ap, subst, ◌∙◌, append_assoc, arith}
 use Rattle.std.specs.Prelude.{◌==◌, Some, slice_get}
 use Rattle.std.specs.List.{list_any, range_with_len}
 use Rattle.std.proofs.lemmas.List.FromFn.{map-range_with_len_more}
@@ -8,31 +8,22 @@ use Rattle.md5.specs.Md5.{md5}
 use Rattle.ms_record.specs.declared.plan.PlanRow.{PlanRow}
 use Rattle.ms_record.specs.Plans.{PlanView, IsPlan, IsRow}
 use Rattle.ms_plan.specs.TableInside.{keyed}
-use Rattle.std.proofs.lemmas.List.{take_more, length-append}
+use Rattle.std.proofs.lemmas.List.{take_more, take_all, length-append, map-append}
+use Rattle.std.proofs.Math.Seq.{drop-append_seam}
 use Rattle.ms_base.specs.declared.names.ServiceId.{ServiceId}
 use Rattle.ms_plan.specs.declared.table.copies.KeyedCopy.{KeyedCopy}
 use Rattle.ms_plan.specs.Mapping.{ServiceCopy, firsts, key_text}
 use Rattle.ms_plan.proofs.Firsts.{firsts-push, holds_service}
-use Rattle.ms_plan.proofs.Ordering.{map-append, numbered}
+use Rattle.ms_plan.proofs.Ordering.{numbered}
 
 abbrev pub key_services : List KeyedCopy → List ServiceId
 key_services copies = map (λ c. c.service) copies
-
-pub take_over : {X : Type 0} (n : ℕ) (xs : List X) → length xs ≤ n → take n xs ≡ xs
-take_over zero [] h = refl
-take_over zero (x ∷ xs) h = absurd (omega arith)
-take_over (suc n) [] h = refl
-take_over (suc n) (x ∷ xs) h = ap (λ zs. x ∷ zs) (take_over n xs (omega arith))
-
-pub drop_past : {X : Type 0} (xs ys : List X) → drop (length xs) (xs ++ ys) ≡ ys
-drop_past [] ys = refl
-drop_past (x ∷ xs) ys = drop_past xs ys
 
 -- what stands behind a front
 pub behind : {X : Type 0} (xs ys : List X) (start : ℕ) → start ≡ length xs → take (length (xs ++ ys) - start) (drop start (xs ++ ys)) ≡ ys
 behind xs ys start e =
     let room : length (xs ++ ys) - start ≡ length ys = omega (arith, length-append xs ys, e) in
-    ap (λ (n : ℕ). take n (drop start (xs ++ ys))) room ∙ ap (λ (n : ℕ). take (length ys) (drop n (xs ++ ys))) e ∙ ap (take (length ys)) (drop_past xs ys) ∙ take_over (length ys) ys (omega arith)
+    ap (λ (n : ℕ). take n (drop start (xs ++ ys))) room ∙ ap (λ (n : ℕ). take (length ys) (drop n (xs ++ ys))) e ∙ ap (take (length ys)) (drop-append_seam xs ys) ∙ take_all (length ys) ys (omega arith)
 
 -- one more copy: its service goes to the end where it is not yet there
 pub firsts_more : (copies : List KeyedCopy) (i : ℕ) (d : KeyedCopy) (before now seen : List ServiceId) (start : ℕ) (found : Bool)

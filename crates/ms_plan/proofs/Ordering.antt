@@ -10,6 +10,8 @@ use Rattle.std.specs.FinMap.{nat_cmp-IsAntisymmetric, slice_cmp-IsAntisymmetric}
 use Rattle.std.specs.List.{filter, flat_map, range_with_len}
 use Rattle.std.specs.List.Sorted.{IsPermutation, IsSorted}
 use Rattle.std.proofs.lemmas.Bool.{false≢true}
+use Rattle.std.proofs.lemmas.List.Elements.{filter-append}
+use Rattle.std.proofs.lemmas.Simd.{map-map}
 use Rattle.std.proofs.lemmas.Cmp.{nat_cmp_total, on_total, then_total, nat_list_cmp_total}
 use Rattle.md5.specs.Md5.{md5}
 use Rattle.ms_base.specs.declared.names.ServiceId.{ServiceId}
@@ -55,14 +57,6 @@ compare_keyed_same c d h =
     let copy : c.copy ≡ d.copy = nat_cmp-IsAntisymmetric c.copy d.copy b.1 in
     λ i. record { key = key i; service = record { 0 = service i }; copy = copy i }
 
-map_map : {X Y Z : Type 0} (f : Y → Z) (g : X → Y) (xs : List X) → map f (map g xs) ≡ map (λ x. f (g x)) xs
-map_map f g [] = refl
-map_map f g (x ∷ xs) = ap (λ zs. f (g x) ∷ zs) (map_map f g xs)
-
-pub map-append : {X Y : Type 0} (f : X → Y) (xs ys : List X) → map f (xs ++ ys) ≡ map f xs ++ map f ys
-map-append f [] ys = refl
-map-append f (x ∷ xs) ys = ap (λ zs. f x ∷ zs) (map-append f xs ys)
-
 abbrev pub services : List ServiceCopy → List ServiceId
 services copies = map (λ c. c.service) copies
 
@@ -81,7 +75,7 @@ unfolding order_at
 order_of_keyed plan slot copies moved rises =
     let e : copies ≡ sorted compare_keyed (map (keyed slot) (copies_in plan)) = sorted_only compare_keyed_total compare_keyed_same (map (keyed slot) (copies_in plan)) copies moved (rises_from_sorted compare_keyed_total copies rises) in
     let f : sorted compare_keyed (map (keyed slot) (copies_in plan)) ≡ map (keyed slot) (sorted (compare_at slot) (copies_in plan)) = sorted-map (keyed slot) compare_keyed (copies_in plan) in
-    ap (λ (cs : List KeyedCopy). firsts (map (λ c. c.service) cs)) (e ∙ f) ∙ ap firsts (map_map (λ (c : KeyedCopy). c.service) (keyed slot) (sorted (compare_at slot) (copies_in plan)))
+    ap (λ (cs : List KeyedCopy). firsts (map (λ c. c.service) cs)) (e ∙ f) ∙ ap firsts (map-map (λ (c : KeyedCopy). c.service) (keyed slot) (sorted (compare_at slot) (copies_in plan)))
 
 -- ---- a service less
 
@@ -94,14 +88,6 @@ services-filter s (c ∷ cs) =
     elim (differs s c.service) as (λ (b : Bool). services (cond b (c ∷ filter (other_copy s) cs) (filter (other_copy s) cs)) ≡ cond b (c.service ∷ without s (services cs)) (without s (services cs))) [
       | true ↦ ap (λ zs. c.service ∷ zs) (services-filter s cs)
       | false ↦ services-filter s cs
-    ]
-
-filter-append : {X : Type 0} (p : X → Bool) (xs ys : List X) → filter p (xs ++ ys) ≡ filter p xs ++ filter p ys
-filter-append p [] ys = refl
-filter-append p (x ∷ xs) ys =
-    elim (p x) as (λ (b : Bool). cond b (x ∷ filter p (xs ++ ys)) (filter p (xs ++ ys)) ≡ cond b (x ∷ filter p xs) (filter p xs) ++ filter p ys) [
-      | true ↦ ap (λ zs. x ∷ zs) (filter-append p xs ys)
-      | false ↦ filter-append p xs ys
     ]
 
 abbrev pub numbered : ServiceId → List ℕ → List ServiceCopy

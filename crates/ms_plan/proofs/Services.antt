@@ -10,7 +10,7 @@ use Rattle.std.specs.List.Sorted.{IsPermutation}
 use Rattle.std.proofs.lemmas.Bool.{eqb-true}
 use Rattle.std.proofs.lemmas.Bool.Decides.{nat_tests}
 use Rattle.std.proofs.lemmas.Cmp.{nat_cmp_total, on_total}
-use Rattle.std.proofs.lemmas.List.{length-map}
+use Rattle.std.proofs.lemmas.List.{length-map, map-append}
 use Rattle.std.proofs.lemmas.List.Folds.{list_any-append}
 use Rattle.std.proofs.lemmas.List.Sorted.{list_any-IsPermutation, IsPermutation-map, length_permutation}
 use Rattle.ms_base.specs.declared.names.ServiceId.{ServiceId}
@@ -19,7 +19,7 @@ use Rattle.ms_record.specs.Plans.{PlanView, IsPlan}
 use Rattle.ms_plan.specs.Mapping.{ServiceCopy, copies_of, copies_in, compare_at, sorted, firsts, order_at, services_of}
 use Rattle.ms_plan.proofs.Sorting.{times, sorted_permutes, permutation_from_times}
 use Rattle.ms_plan.proofs.Firsts.{times-firsts, times_agree, is_service}
-use Rattle.ms_plan.proofs.Ordering.{services, numbered, map-append}
+use Rattle.ms_plan.proofs.Ordering.{services, numbered}
 
 abbrev row_services : List PlanRow → List ServiceId
 row_services rows = map (λ row. row.service) rows

@@ -1,14 +1,15 @@
 -- The orders of all slots in one list.
 use Rattle.std.proofs.Common.{◌≡◌, ℕ, ◌+◌, ◌-◌, ◌*◌, ◌<◌, ◌≤◌, List, [], ◌++◌, length, take, drop, map, sym, ap, subst, ◌∙◌, arith, inl, inr}
 use Rattle.std.proofs.lemmas.Bool.{cases_lt}
-use Rattle.std.proofs.lemmas.List.{length-append, drop-append-le, take-append-le, length-drop}
+use Rattle.std.proofs.Math.Seq.{drop-append_seam}
+use Rattle.std.proofs.lemmas.List.{take_all, length-append, drop-append-le, take-append-le, length-drop}
 use Rattle.std.specs.List.Sorted.{IsPermutation, IsSorted}
 use Rattle.ms_base.specs.declared.names.ServiceId.{ServiceId}
 use Rattle.ms_record.specs.Plans.{PlanView, IsPlan}
 use Rattle.ms_plan.specs.declared.table.copies.KeyedCopy.{KeyedCopy}
 use Rattle.ms_plan.specs.Mapping.{copies_in, firsts, order_at, services_of}
 use Rattle.ms_plan.specs.TableInside.{HoldsOrders, keyed}
-use Rattle.ms_plan.proofs.Filling.{drop_past, key_services, take_over}
+use Rattle.ms_plan.proofs.Filling.{key_services}
 use Rattle.ms_plan.proofs.Ordering.{compare_keyed, order_of_keyed}
 use Rattle.ms_plan.proofs.Services.{services_permute, length-order}
 
@@ -45,8 +46,8 @@ last_part : (plan : PlanView) (slot slots : ℕ) (orders : List ServiceId) → I
 last_part plan slot slots orders rules h same =
     let here : slot * length plan.rows ≡ length orders = ap (λ (n : ℕ). n * length plan.rows) same ∙ sym h.wide in
     ap (λ (n : ℕ). take (length plan.rows) (drop n (orders ++ order_at plan slots))) here
-    ∙ ap (take (length plan.rows)) (drop_past orders (order_at plan slots))
-    ∙ take_over (length plan.rows) (order_at plan slots) (omega (arith, length-order plan slots rules))
+    ∙ ap (take (length plan.rows)) (drop-append_seam orders (order_at plan slots))
+    ∙ take_all (length plan.rows) (order_at plan slots) (omega (arith, length-order plan slots rules))
     ∙ ap (order_at plan) (sym same)
 
 pub holds_more : (plan : PlanView) (slots : ℕ) (orders more : List ServiceId) → IsPlan plan → HoldsOrders plan slots orders → more ≡ orders ++ order_at plan slots → HoldsOrders plan (slots + 1) more
