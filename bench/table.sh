@@ -1,0 +1,9 @@
+#!/usr/bin/env bash
+# Times the making of the largest table, of 16 services with 16 copies each in 1,024 slots, by a test of ms_plan that `rt test` has
+# built; prints the median of five runs in milliseconds.
+# usage: bench/table.sh crates/ms_plan/out/ms_plan_tests
+set -euo pipefail
+# shellcheck source=bench/timing.bash
+source "$(dirname "$(realpath "$0")")/timing.bash"
+
+printf 'largest table: %s ms\n' "$(median "$program" table_tests::largest_table)"

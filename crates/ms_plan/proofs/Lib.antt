@@ -1,0 +1,7 @@
+mod Sorting
+mod Firsts
+mod Ordering
+mod Services
+mod Staying
+mod Slots
+mod Filling
