@@ -28,8 +28,8 @@ served service log = record { service = service; log = log }
 -- The service's own pass is of the board, owns the service's word and knows what the configuration told; and what is kept is
 -- what the log in that pass leaves
 pub record Agrees (board : TableId) (service : ℕ) (shelf : Shelf) (known : Known Item) : Type 0 where
-  pub board : known.board ≡ board
-  pub word : known.word ≡ Some service
+  pub on_board : known.board ≡ board
+  pub owns : known.word ≡ Some service
   pub told : 0 < length (list_at known.lists configuration)
   pub holds : Holds shelf (log_in known.lists service)
 

@@ -17,7 +17,7 @@ use Rattle.ms_record.specs.Logs.{texts_in, HasPut}
 
 -- the texts of the list with this number
 abbrev pub texts_at : Lists → ℕ → List (List ℕ)
-texts_at lists number = option_map_or (λ texts. texts.items) [] (get nat_cmp lists.texts number)
+texts_at lists number = option_map_or (λ texts. texts.items) (get nat_cmp lists.texts number) []
 
 -- one text more fits in the list's memory
 abbrev pub HasRoom : Lists → ℕ → Type 0
