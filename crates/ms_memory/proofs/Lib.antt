@@ -1,2 +1,3 @@
 mod Storing
 mod Holding
+mod Keeping

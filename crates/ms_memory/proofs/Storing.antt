@@ -1,6 +1,7 @@
 -- Places of a store, and what stands there after a change.
-use Rattle.std.proofs.Common.{◌≡◌, ℕ, ◌<◌, ◌≤◌, arith, Bool, true, false, cond, List, Option, Some, None, refl, sym, ap, ◌∙◌}
+use Rattle.std.proofs.Common.{◌≡◌, ◌⊎◌, inl, inr, ℕ, ◌<◌, ◌≤◌, arith, Bool, true, false, cond, List, Option, Some, None, refl, sym, ap, ◌∙◌}
 use Rattle.std.proofs.lemmas.Bool.Decides.{nat_tests}
+use Rattle.std.proofs.lemmas.Cmp.{nat_cmp_total, nat_list_cmp_total, tied_itself}
 use Rattle.std.proofs.lemmas.Map.Entries.{lookup-filter-keys}
 use Rattle.std.specs.Map.{lookup}
 use Rattle.std.specs.Prelude.{filter, nat_le}
@@ -85,3 +86,23 @@ dropped_gone floor old new is g n lt = let e : nat_le floor g ≡ false = grind 
 
 pub dropped_kept : (floor : ℕ) (old new : List (Spot × Option (List ℕ))) → new ≡ filter (λ e. nat_le floor e.0.generation) old → (g : ℕ) (n : Name) → floor ≤ g → text_there (found (spot g n) new) ≡ text_there (found (spot g n) old)
 dropped_kept floor old new is g n le = let e : nat_le floor g ≡ true = grind (arith, nat_tests) in ap text_there (after floor g n true old new is e)
+
+-- ---- two places are one, or they differ
+
+compares_equal : (generation : ℕ) (name : Name) → is_eq (spot_cmp (spot generation name) (spot generation name)) ≡ true
+compares_equal generation name =
+    ap (λ (o : Ordering). is_eq (ordering_then o (slice_cmp nat_cmp name.0 name.0))) (tied_itself nat_cmp_total generation) ∙ ap is_eq (tied_itself nat_list_cmp_total name.0)
+
+abbrev pub IsSpot : ℕ → Name → ℕ → Name → Type 0
+IsSpot generation name g n = ((g ≡ generation) × (n ≡ name)) ⊎ (g ≡ generation → n ≡ name → ⊥)
+
+by_test : (generation : ℕ) (name : Name) (g : ℕ) (n : Name) (b : Bool) → is_eq (spot_cmp (spot generation name) (spot g n)) ≡ b → IsSpot generation name g n
+by_test generation name g n true e =
+    let same = spot_exact (spot generation name) (spot g n) (equal (spot_cmp (spot generation name) (spot g n)) e) in
+    inl (sym (ap (λ (s : Spot). s.generation) same), sym (ap (λ (s : Spot). s.name) same))
+by_test generation name g n false e = inr (λ p q.
+    let same : is_eq (spot_cmp (spot generation name) (spot g n)) ≡ true = ap (λ (s : ℕ × Name). is_eq (spot_cmp (spot generation name) (spot s.0 s.1))) (λ i. (p i, q i)) ∙ compares_equal generation name in
+    cc (same, e))
+
+pub which_spot : (generation : ℕ) (name : Name) (g : ℕ) (n : Name) → IsSpot generation name g n
+which_spot generation name g n = by_test generation name g n (is_eq (spot_cmp (spot generation name) (spot g n))) refl
