@@ -1,3 +1,4 @@
 mod Storing
 mod Holding
 mod Keeping
+mod Serving

@@ -104,6 +104,7 @@ impl<J: Naming> ServiceState<J> {
             }
         }
         self.shelf.reserve(alloc, &event)?;
+        self.pass.recall();
         let event = told(board, &mut self.pass, event);
         board.take(pass, board.note(&mut self.pass));
         self.shelf.keep(event);
