@@ -2,3 +2,5 @@ mod Storing
 mod Holding
 mod Keeping
 mod Serving
+mod Linking
+mod Following
