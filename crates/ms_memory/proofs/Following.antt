@@ -5,7 +5,9 @@ use Rattle.ms_core.specs.Views.{View, configuration, IsClosed}
 use Rattle.ms_ken.specs.Lists.{list_at, Begins, MayFollow, with_item}
 use Rattle.ms_ken.specs.Prefixes.{prefix_trans}
 use Rattle.ms_ken.specs.Rows.{item_else}
-use Rattle.ms_memory.specs.Untold.{KnowsUntold}
+use Rattle.ms_ken.specs.Known.{Known}
+use Rattle.ms_link.specs.Links.{LinkView, Learns, Stays}
+use Rattle.ms_memory.specs.Untold.{IsReady, KnowsUntold}
 use Rattle.ms_record.specs.declared.item.Item.{Item}
 use Rattle.ms_record.specs.declared.item.Item.TheVariants.{Told, Untold}
 
@@ -28,3 +30,11 @@ pub any_may_follow : (n : ℕ) (lists : View) (service : ℕ) (item : Item) → 
 any_may_follow n lists service item lt h more wide closed begins =
     let other : configuration ≢ service = omega arith in
     inr (inl (item_else more service item configuration other ∙ untold_alone more closed (untold_stays lists more begins h)))
+
+-- a client stays ready from call to call
+pub ready_stays : (old new : LinkView) (before after : Known Item) → IsReady old.board old.service before → Stays old new → Learns before after → IsReady new.board new.service after
+ready_stays old new before after ready link learns = record {
+  on_board = learns.board ∙ (ready.on_board ∙ sym (ap (λ (l : LinkView). l.board) link.same));
+  untold = untold_stays before.lists after.lists learns.more ready.untold;
+  below = subst (λ (s : ℕ). s < configuration) (sym (ap (λ (l : LinkView). l.service) link.same)) ready.below;
+}
