@@ -1,0 +1,40 @@
+-- On a board on which nothing is claimed any event may follow.
+use Rattle.std.proofs.Common.{◌≡◌, ◌≢◌, ℕ, ◌<◌, List, [], ◌∷◌, ◌++◌, length, refl, sym, ◌∙◌, ap, subst, inl, inr, arith}
+use mathlib.Core.List.{IsPrefix}
+use Rattle.ms_core.specs.Views.{View, configuration, IsClosed}
+use Rattle.ms_ken.specs.Lists.{list_at, Begins, MayFollow, with_item}
+use Rattle.ms_ken.specs.Prefixes.{prefix_trans}
+use Rattle.ms_ken.specs.Rows.{item_else}
+use Rattle.ms_ken.specs.Known.{Known}
+use Rattle.ms_link.specs.Links.{LinkView, Learns, Stays}
+use Rattle.ms_memory.specs.Untold.{IsReady, KnowsUntold}
+use Rattle.ms_record.specs.declared.item.Item.{Item}
+use Rattle.ms_record.specs.declared.item.Item.TheVariants.{Told, Untold}
+
+-- what claims nothing stays so
+pub untold_stays : (lists more : View) → Begins lists more → KnowsUntold lists → KnowsUntold more
+untold_stays lists more begins h = prefix_trans (Untold ∷ []) (list_at lists configuration) (list_at more configuration) h (begins configuration)
+
+begins_with : (items : List Item) (a b : Item) → IsPrefix (a ∷ []) items → items ≡ b ∷ [] → a ≡ b
+begins_with items a b p is = let q = p.1 ∙ is in cc q
+
+untold_alone : (lists : View) → IsClosed lists → KnowsUntold lists → list_at lists configuration ≡ Untold ∷ []
+untold_alone lists (inl none) h = absurd (nothing (list_at lists configuration) h (none configuration))
+  where
+    nothing : (items : List Item) → IsPrefix (Untold ∷ []) items → items ≡ [] → ⊥
+    nothing items p is = let q = p.1 ∙ is in cc q
+untold_alone lists (inr (inl alone)) h = alone
+untold_alone lists (inr (inr told)) h = absurd (let q = begins_with (list_at lists configuration) Untold (Told told.0) h told.1.alone in cc q)
+
+pub any_may_follow : (n : ℕ) (lists : View) (service : ℕ) (item : Item) → service < configuration → KnowsUntold lists → MayFollow IsClosed n lists service item
+any_may_follow n lists service item lt h more wide closed begins =
+    let other : configuration ≢ service = omega arith in
+    inr (inl (item_else more service item configuration other ∙ untold_alone more closed (untold_stays lists more begins h)))
+
+-- a client stays ready from call to call
+pub ready_stays : (old new : LinkView) (before after : Known Item) → IsReady old.board old.service before → Stays old new → Learns before after → IsReady new.board new.service after
+ready_stays old new before after ready link learns = record {
+  on_board = learns.board ∙ (ready.on_board ∙ sym (ap (λ (l : LinkView). l.board) link.same));
+  untold = untold_stays before.lists after.lists learns.more ready.untold;
+  below = subst (λ (s : ℕ). s < configuration) (sym (ap (λ (l : LinkView). l.service) link.same)) ready.below;
+}

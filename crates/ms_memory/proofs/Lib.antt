@@ -1,0 +1,6 @@
+mod Storing
+mod Holding
+mod Keeping
+mod Serving
+mod Linking
+mod Following

@@ -1,0 +1,3 @@
+pub mod Shelves
+pub mod Served
+pub mod Untold

@@ -1,0 +1,175 @@
+//! A link to a service in memory.
+
+ghost use Rattle.std.specs.Prelude.{◌≡◌, true};
+ghost use Rattle.std.specs.Arc.{arc_value};
+ghost use Rattle.ms_base.specs.Counts.{Rose};
+ghost use Rattle.ms_core.specs.Views.{IsClosed};
+ghost use Rattle.ms_ken.specs.Lists.{MayFollow};
+ghost use Rattle.ms_link.specs.Links.{Learns, IsOnBoard};
+ghost use Rattle.ms_memory.specs.Served.{Changes};
+ghost use Rattle.ms_record.specs.declared.item.Item.TheVariants.{Log};
+
+use crate::service::MemoryService;
+use ms_base::{Bytes, Name, ServiceId};
+use ms_core::{Common, FoldClosed, Know};
+use ms_ken::Naming;
+use ms_link::{Link, LinkError, Texts};
+use ms_record::{ListId, LogEvent};
+use std::alloc::Global;
+use std::sync::{Arc, Wait};
+
+/// A link to a service in memory. It has the handle by which it may wait for the service's lock, and never fails.
+#[derive(Drop)]
+pub struct MemoryLink<R: Wait, J: Naming> {
+    rt: R,
+    home: Arc<MemoryService<J>, Global>,
+}
+
+impl<R: Wait, J: Naming> MemoryLink<R, J> {
+    /// A link to this service.
+    pub fn new(rt: R, home: Arc<MemoryService<J>, Global>) -> MemoryLink<R, J>
+        ensures { result.home ≡ home }
+    {
+        MemoryLink { rt, home }
+    }
+
+    /// Adds the event to the service's log, under its lock. What lies there has a number of its own; were it another than the
+    /// link's, the answer would be `NoMemory`.
+    fn change(
+        &self,
+        alloc: Global,
+        board: &Common,
+        pass: &mut Know,
+        event: LogEvent,
+    ) -> Result<(), LinkError>
+        requires board { (board.now ≡ J.board) × (pass.old.board ≡ J.board) }
+        requires closed { MayFollow IsClosed J.board.words pass.old.lists (arc_value self.now.home).service.0 (Log event) }
+        ensures changes { Changes (arc_value self.now.home).service.0 pass.old pass.new event result }
+        ensures pass { Learns pass.old pass.new }
+    {
+        let mut guard = self.home.state.lock(&self.rt);
+        let state = &mut *guard;
+        if state.service() != self.home.service {
+            return Err(LinkError::NoMemory);
+        }
+        state.take(alloc, board, pass, event)
+    }
+}
+
+impl<R: Wait, J: Naming> Link<FoldClosed> for MemoryLink<R, J> {
+    ghost use Rattle.std.specs.Prelude.{true};
+    ghost use Rattle.std.specs.Arc.{arc_value};
+
+    ghost sees = { λ l. record { board = J.board; service = (arc_value l.home).service.0; faults = 0; lists = true; objects = true } };
+
+    fn service(&self) -> ServiceId {
+        self.home.service
+    }
+
+    fn faults(&self) -> u64 {
+        0
+    }
+
+    fn append(
+        &mut self,
+        alloc: Global,
+        board: &Common,
+        pass: &mut Know,
+        list: ListId,
+        text: &[u8],
+    ) -> Result<(), LinkError> {
+        let text = Bytes::of(alloc, text)?;
+        self.change(alloc, board, pass, LogEvent::Rec { list, text })
+    }
+
+    fn list(
+        &mut self,
+        alloc: Global,
+        board: &Common,
+        pass: &mut Know,
+        list: ListId,
+        from: u64,
+    ) -> Result<Texts, LinkError> {
+        let mut guard = self.home.state.lock(&self.rt);
+        let state = &mut *guard;
+        if state.service() != self.home.service {
+            return Err(LinkError::NoMemory);
+        }
+        state.show(board, pass);
+        Ok(state.texts(alloc, list, from)?)
+    }
+
+    fn put(
+        &mut self,
+        alloc: Global,
+        board: &Common,
+        pass: &mut Know,
+        generation: u32,
+        name: &Name,
+        text: &[u8],
+    ) -> Result<(), LinkError> {
+        let event = LogEvent::Put {
+            generation,
+            name: *name,
+            text: Bytes::of(alloc, text)?,
+        };
+        self.change(alloc, board, pass, event)
+    }
+
+    fn has(
+        &mut self,
+        alloc: Global,
+        board: &Common,
+        pass: &mut Know,
+        generation: u32,
+        name: &Name,
+    ) -> Result<bool, LinkError> {
+        let mut guard = self.home.state.lock(&self.rt);
+        let state = &mut *guard;
+        if state.service() != self.home.service {
+            return Err(LinkError::NoMemory);
+        }
+        state.show(board, pass);
+        let floor = state.floor();
+        if generation < floor {
+            return Err(LinkError::Stale { floor });
+        }
+        Ok(state.has(generation, name))
+    }
+
+    fn get(
+        &mut self,
+        alloc: Global,
+        board: &Common,
+        pass: &mut Know,
+        generation: u32,
+        name: &Name,
+    ) -> Result<Option<Bytes>, LinkError> {
+        let mut guard = self.home.state.lock(&self.rt);
+        let state = &mut *guard;
+        if state.service() != self.home.service {
+            return Err(LinkError::NoMemory);
+        }
+        state.show(board, pass);
+        let floor = state.floor();
+        if generation < floor {
+            return Err(LinkError::Stale { floor });
+        }
+        Ok(state.get(alloc, generation, name)?)
+    }
+
+    fn drop_below(
+        &mut self,
+        alloc: Global,
+        board: &Common,
+        pass: &mut Know,
+        generation: u32,
+    ) -> Result<(), LinkError> {
+        self.change(alloc, board, pass, LogEvent::Drop { floor: generation })
+    }
+}
+
+/// A link in memory never fails: `Failed` comes only where the count of faults rose, and its count stays 0. It does nothing.
+pub fn never_fails<R: Wait, J: Naming>()
+    ensures { (old new : MemoryLink R J) → Rose (⟦<MemoryLink<R, J> as Link<FoldClosed>>⟧.sees old).faults (⟦<MemoryLink<R, J> as Link<FoldClosed>>⟧.sees new).faults → ⊥ }
+{}

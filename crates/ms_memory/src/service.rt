@@ -1,0 +1,49 @@
+//! A service that threads share.
+
+ghost use Rattle.std.specs.Prelude.{◌≡◌, ◌<◌, [], length, Some, IfOk, IsOk};
+ghost use Rattle.ms_core.specs.Views.{configuration};
+ghost use Rattle.ms_ken.specs.Lists.{list_at};
+ghost use Rattle.ms_link.specs.Links.{Learns};
+
+use crate::state::ServiceState;
+use ms_base::{NoMemory, ServiceId};
+use ms_core::{Common, Know};
+use ms_ken::Naming;
+use std::alloc::Global;
+use std::sync::{Mutex, Wait};
+
+/// A service behind a lock, which threads share.
+#[derive(Drop)]
+pub struct MemoryService<J: Naming> {
+    pub(crate) service: ServiceId,
+    pub(crate) state: Mutex<ServiceState<J>>,
+}
+
+impl<J: Naming> MemoryService<J> {
+    /// A service to which nothing has happened, with the pass that owns its word.
+    pub fn new(
+        alloc: Global,
+        service: ServiceId,
+        pass: Know,
+    ) -> Result<MemoryService<J>, NoMemory>
+        requires board { pass.board ≡ J.board }
+        requires word { pass.word ≡ Some service.0 }
+        requires empty { list_at pass.lists service.0 ≡ [] }
+        requires told { 0 < length (list_at pass.lists configuration) }
+        ensures made { IsOk result }
+        ensures service { IfOk result (λ home. home.service ≡ service) }
+    {
+        Ok(MemoryService {
+            service,
+            state: Mutex::new(ServiceState::new(alloc, service, pass)),
+        })
+    }
+
+    /// Under the lock the pass takes a note of the service's pass. It takes no memory.
+    pub fn show<R: Wait>(&self, rt: &R, board: &Common, pass: &mut Know)
+        requires board { (board.now ≡ J.board) × (pass.old.board ≡ J.board) }
+        ensures pass { Learns pass.old pass.new }
+    {
+        self.state.lock(rt).show(board, pass);
+    }
+}
