@@ -10,3 +10,6 @@ mod link;
 
 pub use fault::Fault;
 pub use link::FaultLink;
+
+#[cfg(test)]
+mod tests;

@@ -3,4 +3,4 @@ mod Holding
 mod Keeping
 mod Serving
 mod Linking
-mod Following
+pub mod Following

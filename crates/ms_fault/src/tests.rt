@@ -1,0 +1,268 @@
+//! Scripts over a service in memory, on a board on which nothing is claimed, so that any event may follow.
+
+ghost use Rattle.std.specs.Prelude.{◌≡◌, ◌≤◌, [], length, Some, IfOk};
+ghost use Rattle.std.specs.Arc.{arc_value};
+ghost use Rattle.ms_ken.specs.Known.{ArePasses};
+ghost use Rattle.ms_ken.specs.Lists.{list_at};
+ghost use Rattle.ms_memory.specs.Untold.{IsReady, KnowsUntold};
+
+use crate::{Fault, FaultLink};
+use ms_base::{Bytes, Name, ServiceId};
+use ms_core::{Common, FoldClosed, Know};
+use ms_ken::{Board, Naming};
+use ms_link::{Link, LinkError, Texts};
+use ms_memory::{MemoryLink, MemoryService};
+use ms_record::{Item, ListId};
+use std::alloc::Global;
+use std::marker::Brand;
+use std::process::Abort;
+use std::sync::{Arc, Wait};
+use std::test::*;
+
+const VOTES: ListId = ListId(0);
+
+const NAME: Name = Name([7; 32]);
+
+/// The empty directory.
+const TEXT: [u8; 5] = [0x44, 0, 0, 0, 0];
+
+/// A link to service 0 that meets these faults, and a pass of a client.
+fn link<J: Naming, R: Wait + Drop>(
+    rt: R,
+    alloc: Global,
+    board: &Common,
+    mut passes: Vec<Know>,
+    script: Vec<Fault>,
+    rest: Fault,
+) -> Result<(FaultLink<MemoryLink<R, J>>, Know), Fail>
+    requires board { board.now ≡ J.board }
+    requires passes { ArePasses board.now 33 passes.items }
+    ensures { IfOk result (λ r. (r.0.inner.board ≡ J.board) × IsReady r.0.inner.board r.0.inner.service r.1) }
+{
+    let mut configuration = passes.pop().ok_or("a pass")?;
+    passes.truncate(1);
+    let mut service = passes.pop().ok_or("a pass")?;
+    board.tell(&mut configuration, &Item::Untold);
+    board.take(&mut service, board.note(&mut configuration));
+    let home = MemoryService::<J>::new(alloc, ServiceId(0), service)?;
+    let inner = MemoryLink::new(rt, Arc::new(alloc, home)?);
+    Ok((FaultLink::new(alloc, inner, script, rest), configuration))
+}
+
+fn append<L: Link<FoldClosed>>(
+    alloc: Global,
+    board: &Common,
+    pass: &mut Know,
+    link: &mut L,
+    byte: u8,
+) -> Result<(), LinkError>
+    requires board { board.now ≡ (L.sees link.old).board }
+    requires ready { IsReady (L.sees link.old).board (L.sees link.old).service pass.old }
+    ensures ready { IsReady (L.sees link.new).board (L.sees link.new).service pass.new }
+    ensures board { (L.sees link.new).board ≡ (L.sees link.old).board }
+{
+    link.append(alloc, board, pass, VOTES, &[byte])
+}
+
+fn put<L: Link<FoldClosed>>(
+    alloc: Global,
+    board: &Common,
+    pass: &mut Know,
+    link: &mut L,
+    text: &[u8],
+) -> Result<(), LinkError>
+    requires board { board.now ≡ (L.sees link.old).board }
+    requires ready { IsReady (L.sees link.old).board (L.sees link.old).service pass.old }
+    requires short { length text.now ≤ 33554432 }
+    ensures ready { IsReady (L.sees link.new).board (L.sees link.new).service pass.new }
+    ensures board { (L.sees link.new).board ≡ (L.sees link.old).board }
+{
+    link.put(alloc, board, pass, 1, &NAME, text)
+}
+
+fn drop_below<L: Link<FoldClosed>>(
+    alloc: Global,
+    board: &Common,
+    pass: &mut Know,
+    link: &mut L,
+) -> Result<(), LinkError>
+    requires board { board.now ≡ (L.sees link.old).board }
+    requires ready { IsReady (L.sees link.old).board (L.sees link.old).service pass.old }
+    ensures ready { IsReady (L.sees link.new).board (L.sees link.new).service pass.new }
+    ensures board { (L.sees link.new).board ≡ (L.sees link.old).board }
+{
+    link.drop_below(alloc, board, pass, 2)
+}
+
+fn list<L: Link<FoldClosed>>(
+    alloc: Global,
+    board: &Common,
+    pass: &mut Know,
+    link: &mut L,
+) -> Result<Texts, LinkError>
+    requires board { board.now ≡ (L.sees link.old).board }
+    requires ready { IsReady (L.sees link.old).board (L.sees link.old).service pass.old }
+    ensures ready { IsReady (L.sees link.new).board (L.sees link.new).service pass.new }
+    ensures board { (L.sees link.new).board ≡ (L.sees link.old).board }
+{
+    link.list(alloc, board, pass, VOTES, 0)
+}
+
+fn has<L: Link<FoldClosed>>(
+    alloc: Global,
+    board: &Common,
+    pass: &mut Know,
+    link: &mut L,
+) -> Result<bool, LinkError>
+    requires board { board.now ≡ (L.sees link.old).board }
+    requires ready { IsReady (L.sees link.old).board (L.sees link.old).service pass.old }
+    ensures ready { IsReady (L.sees link.new).board (L.sees link.new).service pass.new }
+    ensures board { (L.sees link.new).board ≡ (L.sees link.old).board }
+{
+    link.has(alloc, board, pass, 1, &NAME)
+}
+
+fn get<L: Link<FoldClosed>>(
+    alloc: Global,
+    board: &Common,
+    pass: &mut Know,
+    link: &mut L,
+) -> Result<Option<Bytes>, LinkError>
+    requires board { board.now ≡ (L.sees link.old).board }
+    requires ready { IsReady (L.sees link.old).board (L.sees link.old).service pass.old }
+    ensures ready { IsReady (L.sees link.new).board (L.sees link.new).service pass.new }
+    ensures board { (L.sees link.new).board ≡ (L.sees link.old).board }
+{
+    link.get(alloc, board, pass, 1, &NAME)
+}
+
+/// The texts, which have a byte each, in a row.
+fn joined(alloc: Global, texts: &Texts) -> Result<Vec<u8>, Fail> {
+    let mut bytes = Vec::new(alloc);
+    for text in texts.as_slice() {
+        bytes.extend_from_slice(text.as_slice())?;
+    }
+    Ok(bytes)
+}
+
+fn appends_on<J: Naming, R: Wait + Abort + Drop + Copy>(
+    rt: R,
+    alloc: Global,
+    board: &Common,
+    passes: Vec<Know>,
+) -> Result<(), Fail>
+    requires board { board.now ≡ J.board }
+    requires passes { ArePasses board.now 33 passes.items }
+{
+    let script = vec![in alloc; Fault::Lose, Fault::ActThenFail, Fault::Repeat, Fault::Late { after: 1 }]?;
+    let (mut link, mut pass) = link::<J, R>(rt, alloc, board, passes, script, Fault::Pass)?;
+    let failed = Err(LinkError::Failed);
+    assert_eq!(&rt; append(alloc, board, &mut pass, &mut link, 1), failed);
+    assert_eq!(&rt; append(alloc, board, &mut pass, &mut link, 2), failed);
+    assert_eq!(&rt; append(alloc, board, &mut pass, &mut link, 3), Ok(()));
+    assert_eq!(&rt; append(alloc, board, &mut pass, &mut link, 4), failed);
+    assert_eq!(&rt; append(alloc, board, &mut pass, &mut link, 5), Ok(()));
+    let texts = list(alloc, board, &mut pass, &mut link)?;
+    let bytes = joined(alloc, &texts)?;
+    assert!(&rt; bytes.as_slice() == [2, 3, 3, 4, 5].as_slice());
+    assert_eq!(&rt; link.faults(), 3);
+    assert_eq!(&rt; link.service(), ServiceId(0));
+    Ok(())
+}
+
+fn altered_on<J: Naming, R: Wait + Abort + Drop + Copy>(
+    rt: R,
+    alloc: Global,
+    board: &Common,
+    passes: Vec<Know>,
+    text: &[u8],
+    altered: &[u8],
+) -> Result<(), Fail>
+    requires board { board.now ≡ J.board }
+    requires passes { ArePasses board.now 33 passes.items }
+    requires short { length text.now ≤ 33554432 }
+{
+    let (mut link, mut pass) =
+        link::<J, R>(rt, alloc, board, passes, Vec::new(alloc), Fault::Alter)?;
+    assert!(&rt; get(alloc, board, &mut pass, &mut link)?.is_none());
+    put(alloc, board, &mut pass, &mut link, text)?;
+    let found = get(alloc, board, &mut pass, &mut link)?.ok_or("a text")?;
+    assert!(&rt; found.as_slice() == altered);
+    assert!(&rt; has(alloc, board, &mut pass, &mut link)?);
+    assert_eq!(&rt; link.faults(), 0);
+    Ok(())
+}
+
+fn gone_on<J: Naming, R: Wait + Abort + Drop + Copy>(
+    rt: R,
+    alloc: Global,
+    board: &Common,
+    passes: Vec<Know>,
+) -> Result<(), Fail>
+    requires board { board.now ≡ J.board }
+    requires passes { ArePasses board.now 33 passes.items }
+{
+    let (mut link, mut pass) =
+        link::<J, R>(rt, alloc, board, passes, Vec::new(alloc), Fault::Gone)?;
+    put(alloc, board, &mut pass, &mut link, &TEXT)?;
+    assert!(&rt; get(alloc, board, &mut pass, &mut link)?.is_none());
+    assert!(&rt; !has(alloc, board, &mut pass, &mut link)?);
+    Ok(())
+}
+
+/// A put and a drop that are late by two calls and by one, and reads that fail.
+fn late_on<J: Naming, R: Wait + Abort + Drop + Copy>(
+    rt: R,
+    alloc: Global,
+    board: &Common,
+    passes: Vec<Know>,
+) -> Result<(), Fail>
+    requires board { board.now ≡ J.board }
+    requires passes { ArePasses board.now 33 passes.items }
+{
+    let script = vec![in alloc; Fault::Late { after: 2 }, Fault::Pass, Fault::Lose, Fault::ActThenFail, Fault::Lose, Fault::Late { after: 0 }]?;
+    let (mut link, mut pass) = link::<J, R>(rt, alloc, board, passes, script, Fault::Pass)?;
+    let failed = LinkError::Failed;
+    assert_eq!(&rt; put(alloc, board, &mut pass, &mut link, &TEXT), Err(failed));
+    assert!(&rt; !has(alloc, board, &mut pass, &mut link)?);
+    assert_eq!(&rt; has(alloc, board, &mut pass, &mut link), Err(failed));
+    assert!(&rt; get(alloc, board, &mut pass, &mut link).is_err());
+    assert!(&rt; list(alloc, board, &mut pass, &mut link).is_err());
+    assert_eq!(&rt; drop_below(alloc, board, &mut pass, &mut link), Err(failed));
+    let stale = LinkError::Stale { floor: 2 };
+    assert_eq!(&rt; has(alloc, board, &mut pass, &mut link), Err(stale));
+    assert_eq!(&rt; drop_below(alloc, board, &mut pass, &mut link), Ok(()));
+    assert_eq!(&rt; link.faults(), 5);
+    Ok(())
+}
+
+#[test]
+fn scripted_faults_on_appends(rt: HostRuntime) -> Result<(), Fail> {
+    let (board, passes) = Board::<FoldClosed>::new(rt.alloc(), 33)?;
+    appends_on::<Brand, _>(rt, rt.alloc(), &board, passes)
+}
+
+#[test]
+fn altered_get(rt: HostRuntime) -> Result<(), Fail> {
+    let (board, passes) = Board::<FoldClosed>::new(rt.alloc(), 33)?;
+    let altered = [0x44, 0, 0, 0, 1];
+    altered_on::<Brand, _>(rt, rt.alloc(), &board, passes, &TEXT, &altered)
+}
+
+#[test]
+fn altered_get_of_no_bytes(rt: HostRuntime) -> Result<(), Fail> {
+    let (board, passes) = Board::<FoldClosed>::new(rt.alloc(), 33)?;
+    altered_on::<Brand, _>(rt, rt.alloc(), &board, passes, &[], &[0])
+}
+
+#[test]
+fn gone_get(rt: HostRuntime) -> Result<(), Fail> {
+    let (board, passes) = Board::<FoldClosed>::new(rt.alloc(), 33)?;
+    gone_on::<Brand, _>(rt, rt.alloc(), &board, passes)
+}
+
+#[test]
+fn late_puts_and_drops(rt: HostRuntime) -> Result<(), Fail> {
+    let (board, passes) = Board::<FoldClosed>::new(rt.alloc(), 33)?;
+    late_on::<Brand, _>(rt, rt.alloc(), &board, passes)
+}
