@@ -1,0 +1,6 @@
+pub mod Labels
+pub mod ConfigLines
+pub mod Drafts
+pub mod DraftInside
+pub mod Configuration
+pub mod ConfigInside

@@ -1,0 +1,1 @@
+//! Configurations whose first wrong line, or whose genesis, was known before.

@@ -1,0 +1,13 @@
+//! The configuration that all clients share, and which services hold an object.
+#![tactic(auto)]
+
+pub mod config;
+mod config_line;
+mod draft;
+pub mod label;
+
+pub use config::{Config, read_config};
+pub use label::is_client_label;
+
+#[cfg(test)]
+mod config_tests;
