@@ -1,0 +1,5 @@
+mod LabelLaws
+mod LabelLists
+mod JsonLaws
+mod DraftLaws
+mod FirstPlan

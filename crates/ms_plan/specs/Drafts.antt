@@ -26,7 +26,7 @@ has_copies unit capacity = nat_le 1 (capacity / unit) && nat_le (capacity / unit
 abbrev pub with_service : DraftView → ServiceLine → Option DraftView
 with_service draft service =
     if (length draft.clients == 0) && nat_lt (length draft.services) 16 && has_copies draft.unit service.capacity
-      && not (list_any (λ (s : ServiceLine). bytes_eq s.label service.label) draft.services)
+    && not (list_any (λ (s : ServiceLine). bytes_eq s.label service.label) draft.services)
     then Some (record draft { services = draft.services ++ service ∷ [] }) else None
 
 -- a client more, behind the services, of which there are as many as replicas: at most 16, with a label that no client has

@@ -1,7 +1,7 @@
 -- Labels of services and clients.
-use Rattle.std.specs.Prelude.{◌≡◌, ◌≢◌, ℕ, ◌≤◌, ◌==◌, ◌&&◌, ◌||◌, not, nat_le, Bool, IsTrue, List, length, All, slice_index, Option, Some, None, if◌then◌else◌}
+use Rattle.std.specs.Prelude.{◌≡◌, ◌≢◌, ℕ, ◌≤◌, ◌==◌, ◌&&◌, ◌||◌, not, nat_le, Bool, List, length, slice_index, Option, Some, None, if◌then◌else◌}
 use Rattle.std.specs.Char.{is_ascii_digit, is_ascii_lowercase}
-use Rattle.std.specs.List.{list_all}
+use Rattle.std.specs.List.{AllPass, list_all}
 
 -- `a` to `z`, `0` to `9`, `_` (95) or `-` (45)
 abbrev pub is_label_byte : ℕ → Bool
@@ -12,7 +12,7 @@ pub record IsLabel (text : List ℕ) : Type 0 where
   pub some : 1 ≤ length text
   pub few : length text ≤ 24
   pub first : slice_index text 0 ≢ 45
-  pub bytes : All (λ b. IsTrue (is_label_byte b)) text
+  pub bytes : AllPass is_label_byte text
 
 -- the same as a test
 unfoldable pub is_label : List ℕ → Bool

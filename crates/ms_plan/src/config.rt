@@ -1,6 +1,6 @@
 //! The configuration, which is the same for all clients.
 
-ghost use Rattle.std.specs.Prelude.{◌≡◌, ◌+◌, ◌<◌, ◌≤◌, ℕ, length, slice_get, None, Some, Err, IfOk, IfSome};
+ghost use Rattle.std.specs.Prelude.{◌≡◌, ◌+◌, ◌<◌, ◌≤◌, ℕ, bytes_eq, length, position, slice_get, None, Some, Err, IfOk, IfSome};
 ghost use Rattle.std.specs.Option.{option_map};
 ghost use Rattle.ms_record.specs.Plans.{IsPlan};
 ghost use Rattle.ms_record.specs.Settings.{IsSetting};
@@ -56,10 +56,8 @@ impl Config {
         ensures found { IfSome result (λ c. slice_get self.now.clients c.0 ≡ Some label.now) }
         ensures only { (number : ℕ) → slice_get self.now.clients number ≡ Some label.now → result ≡ Some (client_of number) }
     {
-        self.clients
-            .iter()
-            .position(|client| client.as_str() == label)
-            .map(|at| ClientId(at as u32))
+        let at = place_of(&self.clients, label)?;
+        Some(ClientId(at as u32))
     }
 
     /// The label of the client of this number.
@@ -77,6 +75,13 @@ impl Config {
             .get(service.0 as usize)
             .map(|service| service.label.as_str())
     }
+}
+
+/// The first place of a label.
+fn place_of(labels: &[Label], label: &str) -> Option<usize>
+    ensures { result ≡ position (λ l. bytes_eq l label.now) labels.now }
+{
+    labels.iter().position(|other| other.as_str() == label)
 }
 
 /// The configuration that the text says: `docs/FORMATS.md`, configuration.
@@ -165,7 +170,9 @@ fn finish(text: &[u8], draft: Draft) -> Option<Config>
     }
     let setting = setting(text, &draft);
     let Draft {
-        services, clients, ..
+        services,
+        clients,
+        ..
     } = draft;
     Some(Config {
         setting,

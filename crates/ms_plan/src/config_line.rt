@@ -32,8 +32,10 @@ fn read_json(alloc: Global, line: &[u8]) -> Result<Option<Value>, NoMemory>
 {
     match Value::from_slice(alloc, line) {
         Ok(value) => Ok(Some(value)),
-        Err(error) if error.classify() == Category::Memory => Err(NoMemory),
-        Err(_) => Ok(None),
+        Err(error) => match error.classify() {
+            Category::Memory => Err(NoMemory),
+            _ => Ok(None),
+        },
     }
 }
 

@@ -1,6 +1,6 @@
 //! A configuration of which some lines were read.
 
-ghost use Rattle.std.specs.Prelude.{◌≡◌, ◌+◌, ◌≤◌, ◌<◌, ◌^◌, bytes_eq, length, Some, IfOk, IfSome};
+ghost use Rattle.std.specs.Prelude.{◌≡◌, ◌+◌, ◌≤◌, ◌<◌, bytes_eq, length, Some, IfOk, IfSome};
 ghost use Rattle.std.specs.List.{list_any};
 ghost use Rattle.ms_plan.specs.Drafts.{begun, has_copies as fits, with_service, with_client, with_line, lines_in};
 ghost use Rattle.ms_plan.specs.declared.config_line.ServiceLine.{ServiceLine};
@@ -53,13 +53,12 @@ impl Draft {
 
     /// With one service more, where it is right there.
     fn with_service(mut self, service: ServiceLine) -> Result<Option<Draft>, NoMemory>
-        requires { service.capacity < 2 ^ 64 }
         ensures { IfOk result (λ o. o ≡ with_service self service) }
     {
         if !self.clients.is_empty()
             || self.services.len() >= MOST
             || !has_copies(self.unit, service.capacity)
-            || has_service(&self.services, &service.label)
+            || has_service(&self.services, service.label.as_str())
         {
             return Ok(None);
         }
@@ -73,7 +72,7 @@ impl Draft {
     {
         if (self.replicas as usize) > self.services.len()
             || self.clients.len() >= MOST
-            || has_label(&self.clients, &label)
+            || has_label(&self.clients, label.as_str())
         {
             return Ok(None);
         }
@@ -104,16 +103,16 @@ fn has_copies(unit: u64, capacity: u64) -> bool
     copies >= 1 && copies <= MOST as u64
 }
 
-fn has_service(services: &[ServiceLine], label: &Label) -> bool
+fn has_service(services: &[ServiceLine], label: &str) -> bool
     ensures { result ≡ list_any (λ (s : ServiceLine). bytes_eq s.label label.now) services.now }
 {
     services
         .iter()
-        .any(|service| service.label.as_str() == label.as_str())
+        .any(|service| service.label.as_str() == label)
 }
 
-fn has_label(labels: &[Label], label: &Label) -> bool
+fn has_label(labels: &[Label], label: &str) -> bool
     ensures { result ≡ list_any (λ l. bytes_eq l label.now) labels.now }
 {
-    labels.iter().any(|other| other.as_str() == label.as_str())
+    labels.iter().any(|other| other.as_str() == label)
 }

@@ -1,6 +1,7 @@
 //! Labels of services and clients.
 
 ghost use Rattle.std.specs.Prelude.{◌≡◌, ◌↔◌, IsTrue, IfOk, IsSome};
+ghost use Rattle.std.specs.List.{list_all};
 ghost use Rattle.ms_plan.specs.Labels.{IsLabel, is_label, is_label_byte as may_stand, label_if};
 
 use ms_base::NoMemory;
@@ -18,10 +19,13 @@ pub fn is_client_label(text: &[u8]) -> bool
     ensures exact { IsTrue result ↔ IsLabel text.now }
     ensures test { result ≡ is_label text.now }
 {
-    !text.is_empty()
-        && text.len() <= MOST_LABEL
-        && text[0] != b'-'
-        && text.iter().all(|b| is_label_byte(*b))
+    !text.is_empty() && text.len() <= MOST_LABEL && text[0] != b'-' && are_label_bytes(text)
+}
+
+fn are_label_bytes(text: &[u8]) -> bool
+    ensures { result ≡ list_all may_stand text.now }
+{
+    text.iter().all(|byte| is_label_byte(*byte))
 }
 
 fn is_label_byte(byte: u8) -> bool
