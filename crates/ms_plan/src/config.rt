@@ -90,6 +90,7 @@ fn place_of(labels: &[Label], label: &str) -> Option<usize>
 /// the last.
 pub fn read_config(alloc: Global, text: &[u8]) -> Result<Config, Refusal>
     ensures exact { ReadsConfig (config_at text.now) result }
+    ensures rules { IfOk result IsConfig }
     ensures first { (line : ℕ) → config_at text.now ≡ Err line → IsFirstWrong config_line (whole text.now) None (lines_of text.now) line }
 {
     if text.is_empty() {
@@ -130,7 +131,8 @@ fn read_parties(
     lines: &[u8],
 ) -> Result<Config, Refusal>
     requires { lines_in draft ≡ 1 }
-    ensures { ReadsConfig (read_lines config_line (whole text.now) 2 (Some draft) (lines_of lines.now)) result }
+    ensures rules { IfOk result IsConfig }
+    ensures exact { ReadsConfig (read_lines config_line (whole text.now) 2 (Some draft) (lines_of lines.now)) result }
 {
     let mut rest = lines;
     let mut line = 2;
@@ -163,7 +165,8 @@ fn read_party(alloc: Global, draft: Draft, text: &[u8]) -> Result<Option<Draft>,
 
 /// The configuration, where there is a client.
 fn finish(text: &[u8], draft: Draft) -> Option<Config>
-    ensures { result ≡ config_if text.now draft }
+    ensures is { result ≡ config_if text.now draft }
+    ensures rules { IfSome result IsConfig }
 {
     if draft.clients.is_empty() {
         return None;
