@@ -22,7 +22,7 @@ true_unless : (b : Bool) → (b ≡ true → ⊥) → not b ≡ true
 true_unless true h = absurd (h refl)
 true_unless false h = refl
 
-label_passes : (text : List ℕ) → is_label text ≡ true → IsLabel text
+pub label_passes : (text : List ℕ) → is_label text ≡ true → IsLabel text
 unfolding is_label
 label_passes text h =
     let a = both _ (list_all is_label_byte text) h in
@@ -35,7 +35,7 @@ label_passes text h =
       bytes = AllPass-from_list_all is_label_byte text a.1;
     }
 
-label_keeps : (text : List ℕ) → IsLabel text → is_label text ≡ true
+pub label_keeps : (text : List ℕ) → IsLabel text → is_label text ≡ true
 unfolding is_label
 label_keeps text h =
     joined _ (list_all is_label_byte text)

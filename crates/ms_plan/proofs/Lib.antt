@@ -3,3 +3,5 @@ mod LabelLists
 mod JsonLaws
 mod DraftLaws
 mod FirstPlan
+mod Keys
+mod LineForms

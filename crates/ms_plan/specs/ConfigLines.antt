@@ -2,12 +2,12 @@
 use Rattle.std.specs.Prelude.{ℕ, ◌==◌, ◌&&◌, codes, List, Option, Some, None, if◌then◌else◌, option_and_then}
 use Rattle.std.specs.Option.{option_map_or}
 use Rattle.std.specs.Str.{is_utf8}
-use Rattle.serde_json.specs.Data.{Data}
+use Rattle.serde_json.specs.Data.{Data, number, object, string, member, no_members, unsigned}
 use Rattle.serde_json.specs.Events.{members_len}
 use Rattle.serde_json.specs.Find.{get, as_number, as_object, as_str, as_u64}
 use Rattle.serde_json.specs.Read.{read}
 use Rattle.ms_base.specs.Options.{◌>>=◌}
-use Rattle.ms_plan.specs.Labels.{label_if}
+use Rattle.ms_plan.specs.Labels.{IsLabel, label_if}
 use Rattle.ms_plan.specs.declared.config_line.Line.{Line}
 use Rattle.ms_plan.specs.declared.config_line.Line.TheVariants as forms
 
@@ -59,3 +59,16 @@ line_in d = first_of (head_in d) (first_of (service_in d) (client_in d))
 -- what a line says
 abbrev pub line_at : List ℕ → Option Line
 line_at text = option_and_then line_in (json_of text)
+
+-- the object that says it
+abbrev pub data_of : Line → Data
+data_of (forms.Head replicas unit) =
+    object (member (codes "metasync") (number (unsigned 1)) (member (codes "replicas") (number (unsigned replicas)) (member (codes "unit") (number (unsigned unit)) no_members)))
+data_of (forms.Service service) = object (member (codes "capacity") (number (unsigned service.capacity)) (member (codes "service") (string service.label) no_members))
+data_of (forms.Client label) = object (member (codes "client") (string label) no_members)
+
+-- where it has a label, that is one
+abbrev pub HasLabel : Line → Type 0
+HasLabel (forms.Head replicas unit) = Unit {0}
+HasLabel (forms.Service service) = IsLabel service.label
+HasLabel (forms.Client label) = IsLabel label

@@ -1,6 +1,6 @@
 //! The configuration, which is the same for all clients.
 
-ghost use Rattle.std.specs.Prelude.{◌≡◌, ◌+◌, ◌<◌, ◌≤◌, ℕ, bytes_eq, length, position, slice_get, None, Some, Err, IfOk, IfSome};
+ghost use Rattle.std.specs.Prelude.{◌≡◌, ◌+◌, ◌<◌, ◌≤◌, ℕ, List, bytes_eq, length, position, slice_get, None, Some, Err, IfOk, IfSome};
 ghost use Rattle.std.specs.Option.{option_map};
 ghost use Rattle.ms_record.specs.Plans.{IsPlan};
 ghost use Rattle.ms_record.specs.Settings.{IsSetting};
@@ -8,6 +8,8 @@ ghost use Rattle.ms_record.specs.declared.refusal.Refusal.TheVariants as refusal
 ghost use Rattle.ms_record.specs.declared.refusal.Place.TheVariants as places;
 ghost use Rattle.ms_text.specs.Lines.{lines_of, read_lines};
 ghost use Rattle.ms_text.specs.Firsts.{IsFirstWrong};
+ghost use Rattle.ms_plan.specs.declared.config_line.Line.{Line};
+ghost use Rattle.ms_plan.specs.ConfigLines.{HasLabel, data_of, json_of, line_at};
 ghost use Rattle.ms_plan.specs.Drafts.{lines_in};
 ghost use Rattle.ms_plan.specs.Configuration.{client_of, config_at, config_if, config_line, draft_after, empty_version, first_plan, setting_of, whole, IsConfig, ReadsConfig};
 
@@ -102,6 +104,12 @@ pub fn read_config(alloc: Global, text: &[u8]) -> Result<Config, Refusal>
     };
     read_parties(alloc, text, draft, rest)
 }
+
+/// A line says something exactly where its JSON value is the one object that says it: no key more, and none less.
+pub fn config_laws()
+    ensures read { (text : List ℕ) (line : Line) → line_at text ≡ Some line → HasLabel line × (json_of text ≡ Some (data_of line)) }
+    ensures again { (text : List ℕ) (line : Line) → HasLabel line → json_of text ≡ Some (data_of line) → line_at text ≡ Some line }
+{}
 
 fn wrong_line(line: u32) -> Refusal
     ensures { result ≡ refusals.BadInput places.Config line }

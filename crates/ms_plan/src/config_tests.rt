@@ -1,6 +1,6 @@
 //! Configurations whose first wrong line, or whose genesis, was known before.
 
-use crate::{Config, is_client_label, read_config};
+use crate::{Config, config_laws, is_client_label, read_config};
 use ms_base::{ClientId, ServiceId};
 use ms_record::{Place, Refusal, entry_name};
 use std::alloc::{AllocError, Global};
@@ -258,6 +258,7 @@ fn a_line_that_is_no_text(rt: HostRuntime) -> Result<(), Fail> {
 
 #[test]
 fn labels(rt: HostRuntime) {
+    config_laws();
     for label in [
         b"a".as_slice(),
         b"0",

@@ -6,7 +6,7 @@ mod config_line;
 mod draft;
 pub mod label;
 
-pub use config::{Config, read_config};
+pub use config::{Config, config_laws, read_config};
 pub use label::is_client_label;
 
 #[cfg(test)]

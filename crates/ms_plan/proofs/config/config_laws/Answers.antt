@@ -1,0 +1,5 @@
+use Rattle.ms_plan.proofs.LineForms.{one_value, read_again}
+use Rattle.ms_plan.proofs.config.config_laws.Goals as goal
+
+pub returns : goal.returns
+returns c = record { read = one_value; again = read_again }
