@@ -2,7 +2,6 @@
 use Rattle.std.specs.Prelude.{◌≡◌, ℕ, ◌+◌, nat_lt, List, [], ◌∷◌, length, Option, Some, None, Result, Ok, Err, option_and_then, option_map, if◌then◌else◌}
 use Rattle.ms_base.specs.declared.names.ClientId.{ClientId}
 use Rattle.ms_base.specs.declared.names.Name.{Name}
-use Rattle.ms_base.specs.declared.names.ServiceId.{ServiceId}
 use Rattle.ms_object.specs.Objects.{object_text, name_of}
 use Rattle.ms_object.specs.declared.object.Object.TheVariants as objects
 use Rattle.ms_record.specs.Plans.{PlanView, plan_of}

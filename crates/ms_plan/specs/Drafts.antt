@@ -1,5 +1,5 @@
 -- A configuration of which some lines were read.
-use Rattle.std.specs.Prelude.{◌≡◌, ℕ, ◌+◌, ◌/◌, ◌^◌, ◌<◌, ◌≤◌, ◌==◌, ◌&&◌, not, nat_le, nat_lt, bytes_eq, Bool, List, [], ◌∷◌, ◌++◌, length, map, All, slice_get, Option, Some, None, if◌then◌else◌}
+use Rattle.std.specs.Prelude.{◌≡◌, ℕ, ◌+◌, ◌/◌, ◌^◌, ◌<◌, ◌≤◌, ◌==◌, ◌&&◌, not, nat_le, nat_lt, bytes_eq, Bool, List, [], ◌∷◌, ◌++◌, length, map, slice_get, Option, Some, None, if◌then◌else◌}
 use Rattle.std.specs.List.{list_any}
 use Rattle.ms_plan.specs.declared.config_line.Line.{Line}
 use Rattle.ms_plan.specs.declared.config_line.Line.TheVariants as forms

@@ -3,7 +3,7 @@ use Rattle.std.proofs.lemmas.List.{length-set}
 use Rattle.ms_record.specs.Plans.{IsPlan, plan_of}
 use Rattle.ms_record.specs.declared.plan.PlanRow.{PlanRow}
 use Rattle.std.specs.Prelude.{List}
-use Rattle.ms_plan.specs.Configuration.{first_plan, rows_from}
+use Rattle.ms_plan.specs.Configuration.{first_plan}
 use Rattle.ms_plan.specs.Drafts.{DraftView}
 use Rattle.ms_plan.specs.DraftInside.{seen}
 use Rattle.ms_plan.specs.declared.config_line.ServiceLine.{ServiceLine}

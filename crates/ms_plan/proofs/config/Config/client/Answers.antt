@@ -1,6 +1,5 @@
-use Rattle.std.proofs.Common.{◌≡◌, ℕ, Some, None, Option, sym, ap, ◌∙◌, subst, slice_get}
+use Rattle.std.proofs.Common.{◌≡◌, ℕ, Some, ap, subst, slice_get}
 use Rattle.std.specs.Prelude.{bytes_eq, position}
-use Rattle.ms_base.specs.declared.names.ClientId.{ClientId}
 use Rattle.ms_plan.specs.Configuration.{ConfigView, client_of}
 use Rattle.ms_plan.proofs.LabelLists.{one_place, placed}
 use Rattle.ms_plan.proofs.config.Config.client.Goals as goal
