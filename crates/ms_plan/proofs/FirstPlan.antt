@@ -9,7 +9,7 @@ use Rattle.ms_record.specs.Settings.{IsSetting}
 use Rattle.ms_record.specs.declared.plan.PlanRow.{PlanRow}
 use Rattle.ms_record.specs.declared.setting.Setting.{Setting}
 use Rattle.ms_plan.specs.Configuration.{empty_version, first_plan, row_of, rows_from, setting_of}
-use Rattle.ms_plan.specs.Drafts.{DraftView, IsDraft}
+use Rattle.ms_plan.specs.Drafts.{AreNumbers, DraftView, IsDraft}
 use Rattle.ms_plan.specs.declared.config_line.ServiceLine.{ServiceLine}
 
 pub length-rows_from : (n : ℕ) (services : List ServiceLine) → length (rows_from n services) ≡ length services
@@ -35,15 +35,15 @@ row_at n (s ∷ services) (suc i) row e =
     let r = row_at (n + 1) services i row e in
     record { service = r.service; at = r.at; number = omega (arith, r.number); capacity = r.capacity }
 
-pub first_keeps : (draft : DraftView) → IsDraft draft → 0 < length draft.clients → IsPlan (first_plan draft)
-first_keeps draft h some =
+pub first_keeps : (draft : DraftView) → IsDraft draft → AreNumbers draft → 0 < length draft.clients → IsPlan (first_plan draft)
+first_keeps draft h numbers some =
     let many = length-rows_from 0 draft.services in
     let enough : draft.replicas ≤ length draft.services = h.enough some in record {
       some_generation = omega arith;
       last_generation = omega arith;
       format = refl;
       some_unit = h.some_unit;
-      unit = h.unit;
+      unit = numbers.unit;
       some_rows = omega (arith, many, h.some_replicas);
       few_rows = omega (arith, many, h.few_services);
       some_replicas = h.some_replicas;
@@ -58,7 +58,7 @@ first_keeps draft h some =
         let within : i < length draft.services = slice_get_within draft.services i r.service r.at in
         record {
           service = omega (arith, r.number, h.few_services);
-          capacity = omega (arith, r.capacity, c.fits);
+          capacity = omega (arith, r.capacity, numbers.capacities i r.service r.at);
           some_copies = subst (λ (n : ℕ). 1 ≤ n / draft.unit) (sym r.capacity) c.some_copies;
           few_copies = subst (λ (n : ℕ). n / draft.unit ≤ 16) (sym r.capacity) c.few_copies;
         }
@@ -67,15 +67,15 @@ services_are : (n : ℕ) (services : List ServiceLine) → map (λ (row : PlanRo
 services_are n [] = refl
 services_are n (s ∷ services) = ap (λ (l : List ℕ). n ∷ l) (services_are (n + 1) services)
 
-pub setting_fits : (text : List ℕ) (draft : DraftView) → IsDraft draft → 0 < length draft.clients → IsSetting (setting_of text draft)
+pub setting_fits : (text : List ℕ) (draft : DraftView) → IsDraft draft → AreNumbers draft → 0 < length draft.clients → IsSetting (setting_of text draft)
 unfolding empty_version
-setting_fits text draft h some =
+setting_fits text draft h numbers some =
     let enough : draft.replicas ≤ length draft.services = h.enough some in record {
       some_services = omega (arith, h.some_replicas);
       few_services = h.few_services;
       some_clients = some;
       few_clients = h.few_clients;
-      genesis = record { before = length-sha256 text; client = omega arith; number = omega arith; version = length-sha256 _; plan = first_keeps draft h some };
+      genesis = record { before = length-sha256 text; client = omega arith; number = omega arith; version = length-sha256 _; plan = first_keeps draft h numbers some };
       plan = first_plan draft;
       plan_is = refl;
       first = record { generation = refl; rows = services_are 0 draft.services };
@@ -106,5 +106,5 @@ front_rows rows services i n low high all h =
     let same : n ≡ i = omega arith in
     ap (λ (m : ℕ). take m rows) same ∙ h ∙ ap (rows_from 0) (take_all i services low)
 
-pub same_setting : (s : Setting) (text : List ℕ) (draft : DraftView) → s ≡ setting_of text draft → IsDraft draft → 0 < length draft.clients → IsSetting s
-same_setting s text draft is h some = subst IsSetting (sym is) (setting_fits text draft h some)
+pub same_setting : (s : Setting) (text : List ℕ) (draft : DraftView) → s ≡ setting_of text draft → IsDraft draft → AreNumbers draft → 0 < length draft.clients → IsSetting s
+same_setting s text draft is h numbers some = subst IsSetting (sym is) (setting_fits text draft h numbers some)

@@ -5,3 +5,4 @@ mod DraftLaws
 mod FirstPlan
 mod Keys
 mod LineForms
+mod GrammarLaws

@@ -54,7 +54,6 @@ pub record AreLabels (labels : List (List ℕ)) : Type 0 where
 
 -- a capacity of 1 to 16 units, rounded down
 pub record IsCapacity (unit capacity : ℕ) : Type 0 where
-  pub fits : capacity < 2 ^ 64
   pub some_copies : 1 ≤ capacity / unit
   pub few_copies : capacity / unit ≤ 16
 
@@ -63,13 +62,17 @@ pub record IsDraft (draft : DraftView) : Type 0 where
   pub some_replicas : 1 ≤ draft.replicas
   pub few_replicas : draft.replicas ≤ 16
   pub some_unit : 1 ≤ draft.unit
-  pub unit : draft.unit < 2 ^ 64
   pub few_services : length draft.services ≤ 16
   pub few_clients : length draft.clients ≤ 16
   pub capacities : (i : ℕ) (service : ServiceLine) → slice_get draft.services i ≡ Some service → IsCapacity draft.unit service.capacity
   pub service_labels : AreLabels (labels_of draft.services)
   pub client_labels : AreLabels draft.clients
   pub enough : 0 < length draft.clients → draft.replicas ≤ length draft.services
+
+-- its numbers have 64 bits
+pub record AreNumbers (draft : DraftView) : Type 0 where
+  pub unit : draft.unit < 2 ^ 64
+  pub capacities : (i : ℕ) (service : ServiceLine) → slice_get draft.services i ≡ Some service → service.capacity < 2 ^ 64
 
 -- how many lines were read
 abbrev pub lines_in : DraftView → ℕ

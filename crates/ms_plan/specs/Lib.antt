@@ -3,4 +3,5 @@ pub mod ConfigLines
 pub mod Drafts
 pub mod DraftInside
 pub mod Configuration
+pub mod Grammar
 pub mod ConfigInside

@@ -1,6 +1,6 @@
 //! The configuration, which is the same for all clients.
 
-ghost use Rattle.std.specs.Prelude.{◌≡◌, ◌+◌, ◌<◌, ◌≤◌, ℕ, List, bytes_eq, length, position, slice_get, None, Some, Err, IfOk, IfSome};
+ghost use Rattle.std.specs.Prelude.{◌≡◌, ◌+◌, ◌<◌, ◌≤◌, ℕ, List, bytes_eq, length, position, slice_get, None, Some, Ok, Err, IfOk, IfSome};
 ghost use Rattle.std.specs.Option.{option_map};
 ghost use Rattle.ms_record.specs.Plans.{IsPlan};
 ghost use Rattle.ms_record.specs.Settings.{IsSetting};
@@ -10,8 +10,9 @@ ghost use Rattle.ms_text.specs.Lines.{lines_of, read_lines};
 ghost use Rattle.ms_text.specs.Firsts.{IsFirstWrong};
 ghost use Rattle.ms_plan.specs.declared.config_line.Line.{Line};
 ghost use Rattle.ms_plan.specs.ConfigLines.{HasLabel, data_of, json_of, line_at};
-ghost use Rattle.ms_plan.specs.Drafts.{lines_in};
-ghost use Rattle.ms_plan.specs.Configuration.{client_of, config_at, config_if, config_line, draft_after, empty_version, first_plan, setting_of, whole, IsConfig, ReadsConfig};
+ghost use Rattle.ms_plan.specs.Grammar.{Says};
+ghost use Rattle.ms_plan.specs.Drafts.{DraftView, lines_in};
+ghost use Rattle.ms_plan.specs.Configuration.{ConfigView, client_of, config_at, config_of, config_if, config_line, draft_after, empty_version, first_plan, setting_of, whole, IsConfig, ReadsConfig};
 
 use crate::config_line::{Line, ServiceLine, read_line};
 use crate::draft::{Draft, MOST};
@@ -108,6 +109,7 @@ pub fn read_config(alloc: Global, text: &[u8]) -> Result<Config, Refusal>
 /// A line says something exactly where its JSON value is the one object that says it: no key more, and none less.
 pub fn config_laws()
     ensures read { (text : List ℕ) (line : Line) → line_at text ≡ Some line → HasLabel line × (json_of text ≡ Some (data_of line)) }
+    ensures says { (text : List ℕ) (config : ConfigView) → config_at text ≡ Ok config → (draft : DraftView) × Says text draft × (config ≡ config_of text draft) }
     ensures again { (text : List ℕ) (line : Line) → HasLabel line → json_of text ≡ Some (data_of line) → line_at text ≡ Some line }
 {}
 

@@ -1,5 +1,6 @@
+use Rattle.ms_plan.proofs.GrammarLaws.{says}
 use Rattle.ms_plan.proofs.LineForms.{one_value, read_again}
 use Rattle.ms_plan.proofs.config.config_laws.Goals as goal
 
 pub returns : goal.returns
-returns c = record { read = one_value; again = read_again }
+returns c = record { read = one_value; says = says; again = read_again }

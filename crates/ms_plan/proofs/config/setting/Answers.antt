@@ -1,7 +1,7 @@
 use Rattle.std.proofs.Common.{◌≡◌, Some, subst, rules}
 use Rattle.ms_record.specs.declared.setting.Setting.{Setting}
 use Rattle.ms_plan.specs.Configuration.{setting_of}
-use Rattle.ms_plan.specs.Drafts.{IsDraft}
+use Rattle.ms_plan.specs.Drafts.{AreNumbers, IsDraft}
 use Rattle.ms_plan.proofs.FirstPlan.{same_setting}
 use Rattle.ms_plan.proofs.config.setting.Goals as goal
 
@@ -12,4 +12,4 @@ pub returns-clause-fits : goal.returns-clause-fits
 unfolding setting
 returns-clause-fits c =
     let is : setting c ≡ setting_of c.args.text.now c.args.draft.now = search rules in
-    same_setting (setting c) c.args.text.now c.args.draft.now is (subst IsDraft c.draft.view_is c.draft.invariant) c.requires
+    same_setting (setting c) c.args.text.now c.args.draft.now is (subst IsDraft c.draft.view_is c.draft.invariant.rules) (subst AreNumbers c.draft.view_is c.draft.invariant.numbers) c.requires
