@@ -1,20 +1,19 @@
 -- The configuration that is read line by line is that of the grammar.
-use Rattle.std.proofs.Common.{◌≡◌, ℕ, suc, zero, ◌+◌, ◌<◌, ◌≤◌, Bool, true, false, List, [], ◌∷◌, ◌++◌, Option, Some, None, Result, Ok, Err, option_map, option_and_then, refl, sym, ap, ◌∙◌, subst, cond, length, map, slice_get, append_assoc, nat_lt, nat_le, eqb-true, bytes_eq, arith}
-use Rattle.std.specs.Prelude.{◌&&◌, ◌||◌, ◌==◌, not}
+use Rattle.std.proofs.Common.{◌≡◌, ℕ, ◌+◌, ◌≤◌, Bool, true, false, List, [], ◌∷◌, ◌++◌, Option, Some, None, Result, Ok, Err, option_map, option_and_then, refl, sym, ap, ◌∙◌, subst, cond, length, map, append_assoc, nat_lt, nat_le, eqb-true, bytes_eq, arith}
+use Rattle.std.specs.Prelude.{◌&&◌, ◌==◌, not}
 use Rattle.std.specs.List.{list_any}
-use Rattle.std.proofs.lemmas.Bool.{leb-true, le-leb, ltb-true, lt-ltb}
-use Rattle.std.proofs.lemmas.Option.{slice_get_within}
-use Rattle.std.proofs.lemmas.Slice.Eq.{bytes_eq-Decides}
+use Rattle.std.proofs.lemmas.Bool.{leb-true, ltb-true}
+use Rattle.std.proofs.lemmas.List.{append-nil}
 use Rattle.ms_text.specs.Lines.{lines_of, on_or_wrong, or_wrong, read_lines}
 use Rattle.ms_plan.specs.ConfigLines.{HasLabel, line_at}
-use Rattle.ms_plan.specs.Configuration.{ConfigView, config_at, config_if, config_line, config_of, whole}
-use Rattle.ms_plan.specs.Drafts.{AreLabels, DraftView, IsDraft, begun, has_copies, labels_of, with_client, with_line, with_service}
+use Rattle.ms_plan.specs.Configuration.{ConfigView, config_at, config_line, config_of, whole}
+use Rattle.ms_plan.specs.Drafts.{DraftView, IsDraft, begun, has_copies, with_line}
 use Rattle.ms_plan.specs.Grammar.{Says, said_lines}
 use Rattle.ms_plan.specs.declared.config_line.Line.{Line}
 use Rattle.ms_plan.specs.declared.config_line.Line.TheVariants as forms
 use Rattle.ms_plan.specs.declared.config_line.ServiceLine.{ServiceLine}
 use Rattle.ms_plan.proofs.DraftLaws.{client_kept, service_kept}
-use Rattle.ms_plan.proofs.LabelLists.{no_labels, used_labels, length-labels}
+use Rattle.ms_plan.proofs.LabelLists.{no_labels}
 use Rattle.ms_plan.proofs.LineForms.{one_value}
 
 abbrev some : Line → Option Line
@@ -41,10 +40,6 @@ not_so false h = refl
 where_true : {X : Type 0} (t : Bool) (o : Option X) (x : X) → cond t o None ≡ Some x → (t ≡ true) × (o ≡ Some x)
 where_true true o x e = (refl, e)
 where_true false o x e = absurd (cc)
-
-no_more : (lines : List Line) → lines ++ [] ≡ lines
-no_more [] = refl
-no_more (line ∷ lines) = ap (λ (ls : List Line). line ∷ ls) (no_more lines)
 
 one_service : (services : List ServiceLine) (clients : List (List ℕ)) (service : ServiceLine) → length clients ≡ 0
     → (services_said services ++ clients_said clients) ++ forms.Service service ∷ [] ≡ services_said (services ++ service ∷ []) ++ clients_said clients
@@ -102,7 +97,7 @@ at_end text n draft config true is h e = record {
   final = draft;
   more = [];
   lines = refl;
-  joined = no_more (said_lines draft);
+  joined = append-nil (said_lines draft);
   rules = h;
   some_clients = ltb-true 0 (length draft.clients) is;
   config_is = sym (same_ok (config_of text draft) config e);

@@ -6,3 +6,4 @@ mod FirstPlan
 mod Keys
 mod LineForms
 mod GrammarLaws
+mod GrammarReads

@@ -107,10 +107,12 @@ pub fn read_config(alloc: Global, text: &[u8]) -> Result<Config, Refusal>
 }
 
 /// A line says something exactly where its JSON value is the one object that says it: no key more, and none less.
+/// And a configuration is read exactly where the whole text says it.
 pub fn config_laws()
-    ensures read { (text : List ℕ) (line : Line) → line_at text ≡ Some line → HasLabel line × (json_of text ≡ Some (data_of line)) }
-    ensures says { (text : List ℕ) (config : ConfigView) → config_at text ≡ Ok config → (draft : DraftView) × Says text draft × (config ≡ config_of text draft) }
-    ensures again { (text : List ℕ) (line : Line) → HasLabel line → json_of text ≡ Some (data_of line) → line_at text ≡ Some line }
+    ensures line { (text : List ℕ) (line : Line) → line_at text ≡ Some line → HasLabel line × (json_of text ≡ Some (data_of line)) }
+    ensures line_again { (text : List ℕ) (line : Line) → HasLabel line → json_of text ≡ Some (data_of line) → line_at text ≡ Some line }
+    ensures whole { (text : List ℕ) (config : ConfigView) → config_at text ≡ Ok config → (draft : DraftView) × Says text draft × (config ≡ config_of text draft) }
+    ensures whole_again { (text : List ℕ) (draft : DraftView) → Says text draft → config_at text ≡ Ok (config_of text draft) }
 {}
 
 fn wrong_line(line: u32) -> Refusal
