@@ -1,17 +1,13 @@
 -- A draft keeps its rules where a line is added.
-use Rattle.std.proofs.Common.{◌≡◌, ℕ, ◌/◌, ◌^◌, ◌<◌, ◌≤◌, Bool, true, false, List, [], ◌∷◌, ◌++◌, inl, inr, refl, sym, ◌∙◌, subst, length, bytes_eq, arith, length-append}
-use Rattle.std.specs.Prelude.{nat_le, ◌&&◌}
+use Rattle.std.proofs.Common.{◌≡◌, ℕ, ◌/◌, ◌^◌, ◌<◌, ◌≤◌, true, false, List, [], ◌∷◌, ◌++◌, inl, inr, sym, ◌∙◌, subst, length, bytes_eq, arith, length-append}
+use Rattle.std.specs.Prelude.{nat_le}
 use Rattle.std.specs.List.{list_any}
 use Rattle.std.proofs.lemmas.Bool.{leb-true}
 use Rattle.ms_plan.specs.Drafts.{AreLabels, AreNumbers, DraftView, IsCapacity, IsDraft, has_copies, labels_of}
 use Rattle.ms_plan.specs.Labels.{IsLabel}
 use Rattle.ms_plan.specs.declared.config_line.ServiceLine.{ServiceLine}
 use Rattle.ms_plan.proofs.LabelLists.{last_or, more_labels, used_labels, labels-push}
-
-both : (a b : Bool) → (a && b) ≡ true → (a ≡ true) × (b ≡ true)
-both true true h = (refl, refl)
-both true false h = absurd cc
-both false b h = absurd cc
+use Rattle.ms_plan.proofs.Tests.{both}
 
 pub capacity_fits : (unit capacity : ℕ) → has_copies unit capacity ≡ true → IsCapacity unit capacity
 capacity_fits unit capacity h =

@@ -11,13 +11,11 @@ use Rattle.ms_record.specs.declared.setting.Setting.{Setting}
 use Rattle.ms_plan.specs.Configuration.{empty_version, first_plan, row_of, rows_from, setting_of}
 use Rattle.ms_plan.specs.Drafts.{AreNumbers, DraftView, IsDraft}
 use Rattle.ms_plan.specs.declared.config_line.ServiceLine.{ServiceLine}
+use Rattle.ms_plan.proofs.Tests.{same_some}
 
 pub length-rows_from : (n : ℕ) (services : List ServiceLine) → length (rows_from n services) ≡ length services
 length-rows_from n [] = refl
 length-rows_from n (s ∷ services) = ap suc (length-rows_from (n + 1) services)
-
-same_some : {X : Type 0} (a b : X) → Some a ≡ Some b → a ≡ b
-same_some a b e = cc
 
 -- a row is that of the service at its place
 record IsRowAt (n : ℕ) (services : List ServiceLine) (i : ℕ) (row : PlanRow) : Type 0 where

@@ -15,6 +15,7 @@ use Rattle.ms_plan.specs.declared.config_line.ServiceLine.{ServiceLine}
 use Rattle.ms_plan.proofs.DraftLaws.{client_kept, service_kept}
 use Rattle.ms_plan.proofs.LabelLists.{no_labels}
 use Rattle.ms_plan.proofs.LineForms.{one_value}
+use Rattle.ms_plan.proofs.Tests.{both, same_some, where_true}
 
 abbrev some : Line → Option Line
 some line = Some line
@@ -25,21 +26,9 @@ services_said services = map (λ (service : ServiceLine). forms.Service service)
 abbrev clients_said : List (List ℕ) → List Line
 clients_said clients = map (λ (label : List ℕ). forms.Client label) clients
 
-same_some : {X : Type 0} (a b : X) → Some a ≡ Some b → a ≡ b
-same_some a b e = cc
-
-both : (a b : Bool) → (a && b) ≡ true → (a ≡ true) × (b ≡ true)
-both true true h = (refl, refl)
-both true false h = absurd cc
-both false b h = absurd cc
-
 not_so : (b : Bool) → not b ≡ true → b ≡ false
 not_so true h = absurd cc
 not_so false h = refl
-
-where_true : {X : Type 0} (t : Bool) (o : Option X) (x : X) → cond t o None ≡ Some x → (t ≡ true) × (o ≡ Some x)
-where_true true o x e = (refl, e)
-where_true false o x e = absurd (cc)
 
 one_service : (services : List ServiceLine) (clients : List (List ℕ)) (service : ServiceLine) → length clients ≡ 0
     → (services_said services ++ clients_said clients) ++ forms.Service service ∷ [] ≡ services_said (services ++ service ∷ []) ++ clients_said clients

@@ -1,6 +1,6 @@
 -- A text of the grammar is read.
 use Rattle.std.proofs.Common.{◌≡◌, ℕ, suc, zero, ◌+◌, ◌/◌, ◌<◌, ◌≤◌, Bool, true, false, List, [], ◌∷◌, ◌++◌, Option, Some, None, Ok, option_map, option_and_then, refl, sym, ap, ◌∙◌, cond, length, map, slice_get, append_assoc, nat_lt, nat_le, bytes_eq, length-append, arith}
-use Rattle.std.specs.Prelude.{◌&&◌, ◌||◌, not}
+use Rattle.std.specs.Prelude.{◌||◌, not}
 use Rattle.std.specs.List.{list_any}
 use Rattle.std.proofs.lemmas.Bool.{le-leb, lt-ltb}
 use Rattle.std.proofs.lemmas.List.{append-nil}
@@ -15,6 +15,7 @@ use Rattle.ms_plan.specs.declared.config_line.Line.{Line}
 use Rattle.ms_plan.specs.declared.config_line.Line.TheVariants as forms
 use Rattle.ms_plan.specs.declared.config_line.ServiceLine.{ServiceLine}
 use Rattle.ms_plan.proofs.LabelLists.{used_labels}
+use Rattle.ms_plan.proofs.Tests.{joined}
 
 abbrev some : Line → Option Line
 some line = Some line
@@ -59,9 +60,6 @@ free_before labels done rest label h is = by (list_any (λ l. bytes_eq l label) 
 labels-append : (services more : List ServiceLine) → labels_of (services ++ more) ≡ labels_of services ++ labels_of more
 labels-append [] more = refl
 labels-append (s ∷ services) more = ap (λ (ls : List (List ℕ)). s.label ∷ ls) (labels-append services more)
-
-joined : (a b : Bool) → a ≡ true → b ≡ true → (a && b) ≡ true
-joined a b p q = rw (p, q) refl
 
 denied : (b : Bool) → b ≡ false → not b ≡ true
 denied b e = ap not e

@@ -10,6 +10,7 @@ use Rattle.serde_json.specs.Data.{Data, number, array, object, Members, no_membe
 use Rattle.serde_json.specs.Events.{members_len}
 use Rattle.serde_json.specs.Find.{get_member}
 use Rattle.serde_json.specs.Read.{number_of, of_json, of_items, of_members}
+use Rattle.ms_plan.proofs.Tests.{same_some}
 
 abbrev cmp : List ℕ → List ℕ → Ordering
 cmp = slice_cmp nat_cmp
@@ -51,9 +52,6 @@ rise_put k d (member l e ms) h = by (rise_put k d ms h.1) (cmp k l) refl
     by later Less is = ((is, further k l ms is h.0), h)
     by later Equal is = h
     by later Greater is = (above_put l k d ms (turned k l is) h.0, later)
-
-same_some : {X : Type 0} (a b : X) → Some a ≡ Some b → a ≡ b
-same_some a b e = cc
 
 rise_read : (js : json.Members) (found ms : Members) → Rise found → of_members js found ≡ Some ms → Rise ms
 rise_read json.no_members found ms h e = subst Rise (same_some found ms e) h

@@ -10,13 +10,11 @@ use Rattle.std.proofs.lemmas.Slice.Eq.{bytes_eq-Decides}
 use Rattle.ms_plan.specs.Drafts.{AreLabels, labels_of}
 use Rattle.ms_plan.specs.Labels.{IsLabel}
 use Rattle.ms_plan.specs.declared.config_line.ServiceLine.{ServiceLine}
+use Rattle.ms_plan.proofs.Tests.{same_some}
 
 neither : (a b : Bool) → (a || b) ≡ false → (a ≡ false) × (b ≡ false)
 neither true b h = absurd cc
 neither false b h = (refl, h)
-
-same_some : {X : Type 0} (a b : X) → Some a ≡ Some b → a ≡ b
-same_some a b e = cc
 
 none_some : {X P : Type 0} (x : X) → None ≡ Some x → P
 none_some x e = absurd cc

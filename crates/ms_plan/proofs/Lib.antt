@@ -1,3 +1,4 @@
+mod Tests
 mod LabelLaws
 mod LabelLists
 mod JsonLaws

@@ -1,5 +1,5 @@
 -- What is read of a line has one JSON value.
-use Rattle.std.proofs.Common.{◌≡◌, ℕ, ◌<◌, Bool, true, false, List, Option, Some, None, option_and_then, refl, ap, ◌∙◌, subst, cond, eqb-true, arith}
+use Rattle.std.proofs.Common.{◌≡◌, ℕ, ◌<◌, List, Option, Some, None, option_and_then, refl, ap, ◌∙◌, subst, eqb-true, arith}
 use Rattle.std.specs.Prelude.{◌&&◌, ◌==◌, codes}
 use Rattle.std.specs.Str.{is_utf8}
 use Rattle.json.specs.Json as json
@@ -16,6 +16,7 @@ use Rattle.ms_plan.specs.declared.config_line.Line.TheVariants as forms
 use Rattle.ms_plan.specs.declared.config_line.ServiceLine.{ServiceLine}
 use Rattle.ms_plan.proofs.Keys.{Found, Rise, all_found, rise_object}
 use Rattle.ms_plan.proofs.LabelLaws.{label_keeps, label_passes}
+use Rattle.ms_plan.proofs.Tests.{both, same_some, where_true}
 
 -- ---- from the value to the line
 
@@ -30,9 +31,6 @@ read_again text line h e = ap (option_and_then line_in) e ∙ spelled line h
 
 -- ---- from the line to the value
 
-same_some : {X : Type 0} (a b : X) → Some a ≡ Some b → a ≡ b
-same_some a b e = cc
-
 then_some : {A B : Type 0} (o : Option A) (f : A → Option B) (b : B) → (o >>= f) ≡ Some b → (a : A) × (o ≡ Some a) × (f a ≡ Some b)
 then_some None f b e = absurd (cc)
 then_some (Some a) f b e = (a, refl, e)
@@ -40,15 +38,6 @@ then_some (Some a) f b e = (a, refl, e)
 and_some : {A B : Type 0} (f : A → Option B) (o : Option A) (b : B) → option_and_then f o ≡ Some b → (a : A) × (o ≡ Some a) × (f a ≡ Some b)
 and_some f None b e = absurd (cc)
 and_some f (Some a) b e = (a, refl, e)
-
-where_true : {X : Type 0} (t : Bool) (o : Option X) (x : X) → cond t o None ≡ Some x → (t ≡ true) × (o ≡ Some x)
-where_true true o x e = (refl, e)
-where_true false o x e = absurd (cc)
-
-both : (a b : Bool) → (a && b) ≡ true → (a ≡ true) × (b ≡ true)
-both true true h = (refl, refl)
-both true false h = absurd cc
-both false b h = absurd cc
 
 number_there : (o : Option Data) (n : ℕ) → option_and_then as_u64 (option_and_then as_number o) ≡ Some n → o ≡ Some (number (unsigned n))
 number_there None n e = absurd (cc)

@@ -7,6 +7,7 @@ use Rattle.ms_plan.specs.declared.config_line.Line.{Line}
 use Rattle.ms_plan.specs.declared.config_line.Line.TheVariants as forms
 use Rattle.ms_plan.specs.declared.config_line.ServiceLine.{ServiceLine}
 
+-- the head, then the services, then the clients
 abbrev pub said_lines : DraftView → List Line
 said_lines draft =
     forms.Head draft.replicas draft.unit ∷ (map (λ (service : ServiceLine). forms.Service service) draft.services ++ map (λ (label : List ℕ). forms.Client label) draft.clients)

@@ -1,4 +1,4 @@
-//! The configuration that all clients share, and which services hold an object.
+//! The configuration that all clients share.
 #![tactic(auto)]
 
 pub mod config;
