@@ -5,3 +5,13 @@ mod Services
 mod Staying
 mod Slots
 mod Filling
+mod Tests
+mod LabelLaws
+mod LabelLists
+mod JsonLaws
+mod DraftLaws
+mod FirstPlan
+mod Keys
+mod LineForms
+mod GrammarLaws
+mod GrammarReads

@@ -1,2 +1,9 @@
 pub mod Mapping
 pub mod TableInside
+pub mod Labels
+pub mod ConfigLines
+pub mod Drafts
+pub mod DraftInside
+pub mod Configuration
+pub mod Grammar
+pub mod ConfigInside

@@ -1,9 +1,17 @@
-//! Plans at work: in which order the services of a plan are to hold an object.
+//! The configuration that all clients share, and in which order the services of a plan are to hold an object.
 #![tactic(auto)]
 
+pub mod config;
+mod config_line;
+mod draft;
+pub mod label;
 pub mod table;
 
+pub use config::{Config, config_laws, read_config};
+pub use label::is_client_label;
 pub use table::{Table, orders_are_sorted, stability};
 
+#[cfg(test)]
+mod config_tests;
 #[cfg(test)]
 mod table_tests;

@@ -1,0 +1,41 @@
+-- The rule of labels and the test of it.
+use Rattle.std.proofs.Common.{◌≡◌, ℕ, Bool, true, false, List, refl, sym, ◌∙◌, length, get_or, nat_le, eq-eqb}
+use Rattle.std.specs.Prelude.{◌==◌, not, IsTrue, ◌↔◌}
+use Rattle.std.specs.List.{list_all}
+use Rattle.std.proofs.lemmas.Bool.{leb-true, le-leb, eqb-true}
+use Rattle.std.proofs.lemmas.List.Sums.{AllPass-from_list_all, list_all-from_AllPass}
+use Rattle.ms_plan.specs.Labels.{IsLabel, is_label, is_label_byte}
+use Rattle.ms_plan.proofs.Tests.{both, joined}
+
+not_true : (b : Bool) → not b ≡ true → b ≡ true → ⊥
+not_true true h e = absurd cc
+not_true false h e = absurd cc
+
+true_unless : (b : Bool) → (b ≡ true → ⊥) → not b ≡ true
+true_unless true h = absurd (h refl)
+true_unless false h = refl
+
+pub label_passes : (text : List ℕ) → is_label text ≡ true → IsLabel text
+unfolding is_label
+label_passes text h =
+    let a = both _ (list_all is_label_byte text) h in
+    let b = both _ (not (get_or text 0 0 == 45)) a.0 in
+    let c = both (nat_le 1 (length text)) (nat_le (length text) 24) b.0 in
+    record {
+      some = leb-true 1 (length text) c.0;
+      few = leb-true (length text) 24 c.1;
+      first = λ e. not_true (get_or text 0 0 == 45) b.1 (eq-eqb (get_or text 0 0) 45 e);
+      bytes = AllPass-from_list_all is_label_byte text a.1;
+    }
+
+pub label_keeps : (text : List ℕ) → IsLabel text → is_label text ≡ true
+unfolding is_label
+label_keeps text h =
+    joined _ (list_all is_label_byte text)
+    (joined _ (not (get_or text 0 0 == 45))
+    (joined (nat_le 1 (length text)) (nat_le (length text) 24) (le-leb 1 (length text) h.some) (le-leb (length text) 24 h.few))
+    (true_unless (get_or text 0 0 == 45) (λ e. h.first (eqb-true (get_or text 0 0) 45 e))))
+    (list_all-from_AllPass is_label_byte text h.bytes)
+
+pub label_decided : (b : Bool) (text : List ℕ) → b ≡ is_label text → IsTrue b ↔ IsLabel text
+label_decided b text is = (λ h. label_passes text (sym is ∙ h), λ h. is ∙ label_keeps text h)

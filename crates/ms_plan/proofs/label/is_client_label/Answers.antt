@@ -1,0 +1,16 @@
+use Rattle.std.proofs.Common.{◌≡◌, rules}
+use Rattle.ms_plan.specs.Labels.{is_label}
+use Rattle.ms_plan.proofs.LabelLaws.{label_decided}
+use Rattle.ms_plan.proofs.label.is_client_label.Goals as goal
+
+pub returns-then-text-ne45 : goal.returns-then-text-ne45
+unfolding is_label
+returns-then-text-ne45 c =
+    let test : c.are_label_bytes.result ≡ is_label c.args.text.now = search rules in
+    record { exact = label_decided _ c.args.text.now test; test = test }
+
+pub returns-else-text-ne45 : goal.returns-else-text-ne45
+unfolding is_label
+returns-else-text-ne45 c =
+    let test : c.if-text-le-MOST_LABEL.value ≡ is_label c.args.text.now = search rules in
+    record { exact = label_decided _ c.args.text.now test; test = test }
