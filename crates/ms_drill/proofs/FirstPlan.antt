@@ -6,7 +6,8 @@ use Rattle.std.proofs.lemmas.List.FromFn.{length-map-range_with_len, take-map-ra
 use Rattle.std.proofs.lemmas.Option.{slice_get_within, get_or_from_slice_get}
 use Rattle.ms_drill.specs.declared.head.Head.{Head}
 use Rattle.sha2.proofs.Facts256.{length-sha256}
-use Rattle.ms_drill.specs.Drills.{empty_version, first_plan, setting_of, IsHead}
+use Rattle.ms_object.specs.Objects.{empty_version}
+use Rattle.ms_drill.specs.Drills.{first_plan, setting_of, IsHead}
 use Rattle.ms_drill.specs.Lines.{row_of}
 use Rattle.ms_record.specs.declared.plan.PlanRow.{PlanRow}
 use Rattle.ms_record.specs.Plans.{IsPlan, IsRow}

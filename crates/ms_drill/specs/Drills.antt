@@ -9,8 +9,7 @@ use Rattle.ms_core.specs.declared.event.Event.{Event}
 use Rattle.ms_drill.specs.declared.head.Head.{Head}
 use Rattle.ms_drill.specs.declared.drill.Drill.{Drill}
 use Rattle.ms_drill.specs.Lines.{event_at, head_at, client_of, row_of}
-use Rattle.ms_object.specs.declared.object.Object.TheVariants as objects
-use Rattle.ms_object.specs.Objects.{object_text}
+use Rattle.ms_object.specs.Objects.{empty_version}
 use Rattle.ms_record.specs.declared.entry.Entry.{Entry}
 use Rattle.ms_record.specs.declared.refusal.Place.TheVariants as places
 use Rattle.ms_record.specs.declared.refusal.Refusal.{Refusal}
@@ -22,10 +21,6 @@ use Rattle.ms_text.specs.Lines.{lines_of, read_lines}
 -- the name of a text
 abbrev pub named : List ℕ → Name
 named text = record { 0 = sha256 text }
-
--- the version of nobody: client 0, number 0, no parents, and the empty directory as its root
-unfoldable pub empty_version : Name
-empty_version = named (object_text (objects.Version (client_of 0) 0 [] (named (object_text (objects.Dir [])))))
 
 -- the first plan: generation 1, format 1, unit 1, and capacity 1 for each service
 abbrev pub first_plan : Head → PlanView

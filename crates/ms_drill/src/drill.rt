@@ -1,7 +1,7 @@
 //! Drills: a setting, and events in their order.
 
 ghost use Rattle.std.specs.Prelude.{◌≡◌, ◌<◌, ◌-◌, ◌^◌, ℕ, length, Err, IfOk};
-ghost use Rattle.ms_drill.specs.Drills.{drill_at, empty_version, events_at, first_plan, setting_of, IsHead, IsWrongLine, ReadsDrill, ReadsEvents};
+ghost use Rattle.ms_drill.specs.Drills.{drill_at, events_at, first_plan, setting_of, IsHead, IsWrongLine, ReadsDrill, ReadsEvents};
 ghost use Rattle.ms_record.specs.Plans.{IsPlan};
 ghost use Rattle.ms_record.specs.Settings.{IsSetting};
 ghost use Rattle.ms_record.specs.declared.refusal.Refusal.TheVariants as refusals;
@@ -12,10 +12,9 @@ use crate::event::read_event;
 use crate::head::{Head, read_head};
 use ms_base::{ClientId, Items, Name, Quantity, ServiceId};
 use ms_core::Event;
-use ms_object::name_of;
+use ms_object::{empty_version, name_of};
 use ms_record::{Entry, Place, Plan, PlanRow, Refusal, Setting};
 use ms_text::next_line;
-use sha2::{Digest, Sha256};
 use std::alloc::Global;
 
 /// A list of events.
@@ -145,16 +144,4 @@ fn first_plan(head: Head) -> Plan
         Some(plan) => plan,
         None => unreachable!(),
     }
-}
-
-/// The name of the empty version: client 0, number 0, no parents, and the empty directory as its root.
-#[tactic(auto, unfolding(crate::specs::Drills::empty_version))]
-fn empty_version() -> Name
-    ensures { result ≡ empty_version }
-{
-    let root = name_of(b"D\0\0\0\0");
-    let mut hasher = Sha256::new();
-    hasher.update(b"V\0\0\0\0\0\0\0\0\0");
-    hasher.update(&root.0);
-    Name(hasher.finalize())
 }

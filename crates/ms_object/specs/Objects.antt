@@ -94,3 +94,7 @@ children_of (Blob text) = []
 children_of (File size blobs) = blobs
 children_of (Dir rows) = names_of rows
 children_of (Version client number parents root) = root ∷ []
+
+-- the name of the version of nobody: client 0, number 0, no parents, and the empty directory as its root
+unfoldable pub empty_version : Name
+empty_version = record { 0 = name_of (object_text (Version (record { 0 = 0 }) 0 [] (record { 0 = name_of (object_text (Dir [])) }))) }

@@ -12,7 +12,7 @@ pub mod writing;
 
 pub use fault::{GatherError, ObjectError};
 pub use label::is_label;
-pub use names::name_of;
+pub use names::{empty_version, name_of};
 pub use object::{Kind, Names, Object, Row, Rows, children, parse};
 pub use store::Store;
 pub use writing::{write_blob, write_dir, write_file, write_version};

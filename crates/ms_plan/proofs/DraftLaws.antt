@@ -4,7 +4,7 @@ use Rattle.std.specs.Prelude.{nat_le}
 use Rattle.std.specs.List.{list_any}
 use Rattle.std.proofs.lemmas.Bool.{leb-true}
 use Rattle.ms_plan.specs.Drafts.{AreLabels, AreNumbers, DraftView, IsCapacity, IsDraft, has_copies, labels_of}
-use Rattle.ms_plan.specs.Labels.{IsLabel}
+use Rattle.ms_text.specs.Labels.{IsLabel}
 use Rattle.ms_plan.specs.declared.config_line.ServiceLine.{ServiceLine}
 use Rattle.ms_plan.proofs.LabelLists.{last_or, more_labels, used_labels, labels-push}
 use Rattle.ms_plan.proofs.Tests.{both}

@@ -8,7 +8,8 @@ use Rattle.ms_record.specs.Plans.{IsPlan, IsRow}
 use Rattle.ms_record.specs.Settings.{IsSetting}
 use Rattle.ms_record.specs.declared.plan.PlanRow.{PlanRow}
 use Rattle.ms_record.specs.declared.setting.Setting.{Setting}
-use Rattle.ms_plan.specs.Configuration.{empty_version, first_plan, row_of, rows_from, setting_of}
+use Rattle.ms_object.specs.Objects.{empty_version}
+use Rattle.ms_plan.specs.Configuration.{first_plan, row_of, rows_from, setting_of}
 use Rattle.ms_plan.specs.Drafts.{AreNumbers, DraftView, IsDraft}
 use Rattle.ms_plan.specs.declared.config_line.ServiceLine.{ServiceLine}
 use Rattle.ms_plan.proofs.Tests.{same_some}

@@ -6,7 +6,6 @@ mod Staying
 mod Slots
 mod Filling
 mod Tests
-mod LabelLaws
 mod LabelLists
 mod JsonLaws
 mod DraftLaws

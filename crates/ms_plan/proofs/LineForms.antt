@@ -10,12 +10,12 @@ use Rattle.serde_json.specs.Events.{members_len}
 use Rattle.serde_json.specs.Find.{get, as_number, as_str, as_u64}
 use Rattle.serde_json.specs.Read.{max_depth, of_json, read}
 use Rattle.ms_plan.specs.ConfigLines.{HasLabel, client_in, data_of, first_of, head_in, json_of, key_count, label_in, line_at, line_in, number_in, service_in}
-use Rattle.ms_plan.specs.Labels.{IsLabel, is_label, label_if}
+use Rattle.ms_text.specs.Labels.{IsLabel, is_label, label_if}
 use Rattle.ms_plan.specs.declared.config_line.Line.{Line}
 use Rattle.ms_plan.specs.declared.config_line.Line.TheVariants as forms
 use Rattle.ms_plan.specs.declared.config_line.ServiceLine.{ServiceLine}
 use Rattle.ms_plan.proofs.Keys.{Found, Rise, all_found, rise_object}
-use Rattle.ms_plan.proofs.LabelLaws.{label_keeps, label_passes}
+use Rattle.ms_text.specs.LabelLaws.{label_keeps, label_passes}
 use Rattle.ms_plan.proofs.Tests.{both, same_some, where_true}
 
 -- ---- from the value to the line

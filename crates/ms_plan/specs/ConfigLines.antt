@@ -7,7 +7,7 @@ use Rattle.serde_json.specs.Events.{members_len}
 use Rattle.serde_json.specs.Find.{get, as_number, as_object, as_str, as_u64}
 use Rattle.serde_json.specs.Read.{read}
 use Rattle.ms_base.specs.Options.{◌>>=◌}
-use Rattle.ms_plan.specs.Labels.{IsLabel, label_if}
+use Rattle.ms_text.specs.Labels.{IsLabel, label_if}
 use Rattle.ms_plan.specs.declared.config_line.Line.{Line}
 use Rattle.ms_plan.specs.declared.config_line.Line.TheVariants as forms
 

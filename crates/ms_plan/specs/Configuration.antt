@@ -2,8 +2,7 @@
 use Rattle.std.specs.Prelude.{◌≡◌, ℕ, ◌+◌, nat_lt, List, [], ◌∷◌, length, Option, Some, None, Result, Ok, Err, option_and_then, option_map, if◌then◌else◌}
 use Rattle.ms_base.specs.declared.names.ClientId.{ClientId}
 use Rattle.ms_base.specs.declared.names.Name.{Name}
-use Rattle.ms_object.specs.Objects.{object_text, name_of}
-use Rattle.ms_object.specs.declared.object.Object.TheVariants as objects
+use Rattle.ms_object.specs.Objects.{empty_version, name_of}
 use Rattle.ms_record.specs.Plans.{PlanView, plan_of}
 use Rattle.ms_record.specs.Settings.{IsSetting}
 use Rattle.ms_record.specs.declared.entry.Entry.{Entry}
@@ -37,10 +36,6 @@ client_of n = record { 0 = n }
 -- the name of a text
 abbrev pub named : List ℕ → Name
 named text = record { 0 = name_of text }
-
--- the name of the version of nobody: client 0, number 0, no parents, and the empty directory as its root
-unfoldable pub empty_version : Name
-empty_version = named (object_text (objects.Version (client_of 0) 0 [] (named (object_text (objects.Dir [])))))
 
 abbrev pub row_of : ℕ → ServiceLine → PlanRow
 row_of number service = record { service = record { 0 = number }; capacity = service.capacity }

@@ -4,7 +4,7 @@ use Rattle.std.specs.List.{list_any}
 use Rattle.ms_plan.specs.declared.config_line.Line.{Line}
 use Rattle.ms_plan.specs.declared.config_line.Line.TheVariants as forms
 use Rattle.ms_plan.specs.declared.config_line.ServiceLine.{ServiceLine}
-use Rattle.ms_plan.specs.Labels.{IsLabel}
+use Rattle.ms_text.specs.Labels.{IsLabel}
 
 -- what the head says, the services, and the labels of the clients, in their order
 pub record DraftView : Type 0 where

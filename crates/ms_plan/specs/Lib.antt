@@ -1,6 +1,5 @@
 pub mod Mapping
 pub mod TableInside
-pub mod Labels
 pub mod ConfigLines
 pub mod Drafts
 pub mod DraftInside

@@ -12,16 +12,14 @@ ghost use Rattle.ms_plan.specs.declared.config_line.Line.{Line};
 ghost use Rattle.ms_plan.specs.ConfigLines.{HasLabel, data_of, json_of, line_at};
 ghost use Rattle.ms_plan.specs.Grammar.{Says};
 ghost use Rattle.ms_plan.specs.Drafts.{DraftView, lines_in};
-ghost use Rattle.ms_plan.specs.Configuration.{ConfigView, client_of, config_at, config_of, config_if, config_line, draft_after, empty_version, first_plan, setting_of, whole, IsConfig, ReadsConfig};
+ghost use Rattle.ms_plan.specs.Configuration.{ConfigView, client_of, config_at, config_of, config_if, config_line, draft_after, first_plan, setting_of, whole, IsConfig, ReadsConfig};
 
 use crate::config_line::{Line, ServiceLine, read_line};
 use crate::draft::{Draft, MOST};
-use crate::label::Label;
 use ms_base::{ClientId, Name, NoMemory, ServiceId};
-use ms_object::name_of;
+use ms_object::{empty_version, name_of};
 use ms_record::{Entry, Place, Plan, PlanRow, Refusal, Setting};
-use ms_text::next_line;
-use sha2::{Digest, Sha256};
+use ms_text::{Label, next_line};
 use std::alloc::Global;
 use std::marker::Model;
 
@@ -242,16 +240,4 @@ fn first_plan(draft: &Draft) -> Plan
         Some(plan) => plan,
         None => unreachable!(),
     }
-}
-
-/// The name of the empty version: client 0, number 0, no parents, and the empty directory as its root.
-#[tactic(auto, unfolding(crate::specs::Configuration::empty_version))]
-fn empty_version() -> Name
-    ensures { result ≡ empty_version }
-{
-    let root = name_of(b"D\0\0\0\0");
-    let mut hasher = Sha256::new();
-    hasher.update(b"V\0\0\0\0\0\0\0\0\0");
-    hasher.update(&root.0);
-    Name(hasher.finalize())
 }

@@ -1,6 +1,6 @@
 //! Configurations whose first wrong line, or whose genesis, was known before.
 
-use crate::{Config, config_laws, is_client_label, read_config};
+use crate::{Config, config_laws, read_config};
 use ms_base::{ClientId, ServiceId};
 use ms_record::{Place, Refusal, entry_name};
 use std::alloc::{AllocError, Global};
@@ -248,35 +248,11 @@ fn sixteen_of_each(rt: HostRuntime) -> Result<(), Fail> {
 
 #[test]
 fn a_line_that_is_no_text(rt: HostRuntime) -> Result<(), Fail> {
+    config_laws();
     let alloc = rt.alloc();
     let text = joined(alloc, HEAD, SERVICES, CLIENTS)?;
     let mut bytes = Vec::from_slice(alloc, text.as_bytes())?;
     bytes.extend_from_slice(b"{\"client\":\"\xff\"}")?;
     assert_eq!(rt; wrong_line(alloc, &bytes), 7);
     Ok(())
-}
-
-#[test]
-fn labels(rt: HostRuntime) {
-    config_laws();
-    for label in [
-        b"a".as_slice(),
-        b"0",
-        b"_",
-        b"a-",
-        b"abcdefghijklmnopqrstuvwx",
-    ] {
-        assert!(rt; is_client_label(label), "{label:?}");
-    }
-    for label in [
-        b"".as_slice(),
-        b"-",
-        b"-a",
-        b"A",
-        b"a.b",
-        b"a b",
-        b"abcdefghijklmnopqrstuvwxy",
-    ] {
-        assert!(rt; !is_client_label(label), "{label:?}");
-    }
 }

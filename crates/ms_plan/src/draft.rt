@@ -6,7 +6,7 @@ ghost use Rattle.ms_plan.specs.Drafts.{begun, has_copies as fits, with_service, 
 ghost use Rattle.ms_plan.specs.declared.config_line.ServiceLine.{ServiceLine};
 
 use crate::config_line::{Line, ServiceLine};
-use crate::label::Label;
+use ms_text::Label;
 use ms_base::NoMemory;
 use std::alloc::Global;
 use std::marker::Model;

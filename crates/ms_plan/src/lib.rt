@@ -4,11 +4,9 @@
 pub mod config;
 mod config_line;
 mod draft;
-pub mod label;
 pub mod table;
 
 pub use config::{Config, config_laws, read_config};
-pub use label::is_client_label;
 pub use table::{Table, orders_are_sorted, stability};
 
 #[cfg(test)]

@@ -1,10 +1,12 @@
-//! Texts that are read line by line: lines, words, numbers and hexadecimal, and their printing.
+//! Texts that are read line by line: lines, words, numbers, hexadecimal and labels, and their printing.
 #![tactic(auto)]
 
+pub mod label;
 pub mod lines;
 pub mod print;
 pub mod words;
 
+pub use label::{Label, is_client_label};
 pub use lines::next_line;
 pub use print::{push_name, push_number, push_text};
 pub use words::{bytes, hex_bytes, name, number, split_at_space};

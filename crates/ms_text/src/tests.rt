@@ -77,3 +77,27 @@ fn words_are_printed(rt: HostRuntime) -> Result<(), Fail> {
     assert!(rt; split_at_space(b"ab").is_none());
     Ok(())
 }
+
+#[test]
+fn labels(rt: HostRuntime) {
+    for label in [
+        b"a".as_slice(),
+        b"0",
+        b"_",
+        b"a-",
+        b"abcdefghijklmnopqrstuvwx",
+    ] {
+        assert!(rt; is_client_label(label), "{label:?}");
+    }
+    for label in [
+        b"".as_slice(),
+        b"-",
+        b"-a",
+        b"A",
+        b"a.b",
+        b"a b",
+        b"abcdefghijklmnopqrstuvwxy",
+    ] {
+        assert!(rt; !is_client_label(label), "{label:?}");
+    }
+}

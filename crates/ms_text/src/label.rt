@@ -2,7 +2,7 @@
 
 ghost use Rattle.std.specs.Prelude.{◌≡◌, ◌↔◌, IsTrue, IfOk, IsSome};
 ghost use Rattle.std.specs.List.{list_all};
-ghost use Rattle.ms_plan.specs.Labels.{IsLabel, is_label, is_label_byte as may_stand, label_if};
+ghost use Rattle.ms_text.specs.Labels.{IsLabel, is_label, is_label_byte as may_stand, label_if};
 
 use ms_base::NoMemory;
 use std::alloc::Global;
@@ -47,7 +47,7 @@ impl Model for Label {
 
     ghost view = { λ l. string_bytes l.text };
 
-    ghost use Rattle.ms_plan.specs.Labels.{IsLabel};
+    ghost use Rattle.ms_text.specs.Labels.{IsLabel};
 
     ghost invariant = { λ l. IsLabel (string_bytes l.text) };
 }

@@ -1,11 +1,18 @@
 -- The rule of labels and the test of it.
 use Rattle.std.proofs.Common.{◌≡◌, ℕ, Bool, true, false, List, refl, sym, ◌∙◌, length, get_or, nat_le, eq-eqb}
-use Rattle.std.specs.Prelude.{◌==◌, not, IsTrue, ◌↔◌}
+use Rattle.std.specs.Prelude.{◌==◌, ◌&&◌, not, IsTrue, ◌↔◌}
 use Rattle.std.specs.List.{list_all}
 use Rattle.std.proofs.lemmas.Bool.{leb-true, le-leb, eqb-true}
 use Rattle.std.proofs.lemmas.List.Sums.{AllPass-from_list_all, list_all-from_AllPass}
-use Rattle.ms_plan.specs.Labels.{IsLabel, is_label, is_label_byte}
-use Rattle.ms_plan.proofs.Tests.{both, joined}
+use Rattle.ms_text.specs.Labels.{IsLabel, is_label, is_label_byte}
+
+both : (a b : Bool) → (a && b) ≡ true → (a ≡ true) × (b ≡ true)
+both true true h = (refl, refl)
+both true false h = absurd cc
+both false b h = absurd cc
+
+joined : (a b : Bool) → a ≡ true → b ≡ true → (a && b) ≡ true
+joined a b p q = rw (p, q) refl
 
 not_true : (b : Bool) → not b ≡ true → b ≡ true → ⊥
 not_true true h e = absurd cc

@@ -1,7 +1,7 @@
 use Rattle.std.proofs.Common.{◌≡◌, rules}
-use Rattle.ms_plan.specs.Labels.{is_label}
-use Rattle.ms_plan.proofs.LabelLaws.{label_decided}
-use Rattle.ms_plan.proofs.label.is_client_label.Goals as goal
+use Rattle.ms_text.specs.Labels.{is_label}
+use Rattle.ms_text.specs.LabelLaws.{label_decided}
+use Rattle.ms_text.proofs.label.is_client_label.Goals as goal
 
 pub returns-then-text-ne45 : goal.returns-then-text-ne45
 unfolding is_label
