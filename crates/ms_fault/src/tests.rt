@@ -1,6 +1,6 @@
 //! Scripts over a service in memory, on a board on which nothing is claimed, so that any event may follow.
 
-ghost use Rattle.std.specs.Prelude.{◌≡◌, ◌≤◌, [], length, Some, IfOk};
+ghost use Rattle.std.specs.Prelude.{◌≡◌, ◌≤◌, [], length, Some, IfOk, IfSome};
 ghost use Rattle.std.specs.Arc.{arc_value};
 ghost use Rattle.ms_ken.specs.Known.{ArePasses};
 ghost use Rattle.ms_ken.specs.Lists.{list_at};
@@ -26,27 +26,34 @@ const NAME: Name = Name([7; 32]);
 /// The empty directory.
 const TEXT: [u8; 5] = [0x44, 0, 0, 0, 0];
 
-/// A link to service 0 that meets these faults, and a pass of a client.
-fn link<J: Naming, R: Wait + Drop>(
-    rt: R,
-    alloc: Global,
-    board: &Common,
-    mut passes: Vec<Know>,
-    script: Vec<Fault>,
-    rest: Fault,
-) -> Result<(FaultLink<MemoryLink<R, J>>, Know), Fail>
-    requires board { board.now ≡ J.board }
-    requires passes { ArePasses board.now 33 passes.items }
-    ensures { IfOk result (λ r. (r.0.inner.board ≡ J.board) × IsReady r.0.inner.board r.0.inner.service r.1) }
+/// The passes of the configuration, which tells that nothing is claimed, and of service 0, which knows it.
+fn begun(board: &Common, mut passes: Vec<Know>) -> Option<(Know, Know)>
+    requires { ArePasses board.now 33 passes.items }
+    ensures configuration { IfSome result (λ r. (r.0.board ≡ board.now) × KnowsUntold r.0.lists) }
+    ensures service { IfSome result (λ r. (r.1.board ≡ board.now) × (r.1.word ≡ Some 0) × (list_at r.1.lists 0 ≡ []) × KnowsUntold r.1.lists) }
 {
-    let mut configuration = passes.pop().ok_or("a pass")?;
+    let mut configuration = passes.pop()?;
     passes.truncate(1);
-    let mut service = passes.pop().ok_or("a pass")?;
+    let mut service = passes.pop()?;
     board.tell(&mut configuration, &Item::Untold);
     board.take(&mut service, board.note(&mut configuration));
-    let home = MemoryService::<J>::new(alloc, ServiceId(0), service)?;
-    let inner = MemoryLink::new(rt, Arc::new(alloc, home)?);
-    Ok((FaultLink::new(alloc, inner, script, rest), configuration))
+    Some((configuration, service))
+}
+
+/// Service 0 behind its lock, and a pass of a client.
+fn home<J: Naming>(
+    alloc: Global,
+    board: &Common,
+    passes: Vec<Know>,
+) -> Result<(Arc<MemoryService<J>, Global>, Know), Fail>
+    requires board { board.now ≡ J.board }
+    requires passes { ArePasses board.now 33 passes.items }
+    ensures service { IfOk result (λ r. (arc_value r.0).service.0 ≡ 0) }
+    ensures pass { IfOk result (λ r. IsReady J.board 0 r.1) }
+{
+    let (pass, service) = begun(board, passes).ok_or("two passes")?;
+    let service = MemoryService::<J>::new(alloc, ServiceId(0), service)?;
+    Ok((Arc::new(alloc, service)?, pass))
 }
 
 fn append<L: Link<FoldClosed>>(
@@ -154,8 +161,14 @@ fn appends_on<J: Naming, R: Wait + Abort + Drop + Copy>(
     requires board { board.now ≡ J.board }
     requires passes { ArePasses board.now 33 passes.items }
 {
-    let script = vec![in alloc; Fault::Lose, Fault::ActThenFail, Fault::Repeat, Fault::Late { after: 1 }]?;
-    let (mut link, mut pass) = link::<J, R>(rt, alloc, board, passes, script, Fault::Pass)?;
+    let script = vec![in alloc;
+        Fault::Lose,
+        Fault::ActThenFail,
+        Fault::Repeat,
+        Fault::Late { after: 1 },
+    ]?;
+    let (home, mut pass) = home::<J>(alloc, board, passes)?;
+    let mut link = FaultLink::new(alloc, MemoryLink::new(rt, home), script, Fault::Pass);
     let failed = Err(LinkError::Failed);
     assert_eq!(&rt; append(alloc, board, &mut pass, &mut link, 1), failed);
     assert_eq!(&rt; append(alloc, board, &mut pass, &mut link, 2), failed);
@@ -182,8 +195,9 @@ fn altered_on<J: Naming, R: Wait + Abort + Drop + Copy>(
     requires passes { ArePasses board.now 33 passes.items }
     requires short { length text.now ≤ 33554432 }
 {
-    let (mut link, mut pass) =
-        link::<J, R>(rt, alloc, board, passes, Vec::new(alloc), Fault::Alter)?;
+    let (home, mut pass) = home::<J>(alloc, board, passes)?;
+    let inner = MemoryLink::new(rt, home);
+    let mut link = FaultLink::new(alloc, inner, Vec::new(alloc), Fault::Alter);
     assert!(&rt; get(alloc, board, &mut pass, &mut link)?.is_none());
     put(alloc, board, &mut pass, &mut link, text)?;
     let found = get(alloc, board, &mut pass, &mut link)?.ok_or("a text")?;
@@ -202,8 +216,9 @@ fn gone_on<J: Naming, R: Wait + Abort + Drop + Copy>(
     requires board { board.now ≡ J.board }
     requires passes { ArePasses board.now 33 passes.items }
 {
-    let (mut link, mut pass) =
-        link::<J, R>(rt, alloc, board, passes, Vec::new(alloc), Fault::Gone)?;
+    let (home, mut pass) = home::<J>(alloc, board, passes)?;
+    let inner = MemoryLink::new(rt, home);
+    let mut link = FaultLink::new(alloc, inner, Vec::new(alloc), Fault::Gone);
     put(alloc, board, &mut pass, &mut link, &TEXT)?;
     assert!(&rt; get(alloc, board, &mut pass, &mut link)?.is_none());
     assert!(&rt; !has(alloc, board, &mut pass, &mut link)?);
@@ -220,8 +235,16 @@ fn late_on<J: Naming, R: Wait + Abort + Drop + Copy>(
     requires board { board.now ≡ J.board }
     requires passes { ArePasses board.now 33 passes.items }
 {
-    let script = vec![in alloc; Fault::Late { after: 2 }, Fault::Pass, Fault::Lose, Fault::ActThenFail, Fault::Lose, Fault::Late { after: 0 }]?;
-    let (mut link, mut pass) = link::<J, R>(rt, alloc, board, passes, script, Fault::Pass)?;
+    let script = vec![in alloc;
+        Fault::Late { after: 2 },
+        Fault::Pass,
+        Fault::Lose,
+        Fault::ActThenFail,
+        Fault::Lose,
+        Fault::Late { after: 0 },
+    ]?;
+    let (home, mut pass) = home::<J>(alloc, board, passes)?;
+    let mut link = FaultLink::new(alloc, MemoryLink::new(rt, home), script, Fault::Pass);
     let failed = LinkError::Failed;
     assert_eq!(&rt; put(alloc, board, &mut pass, &mut link, &TEXT), Err(failed));
     assert!(&rt; !has(alloc, board, &mut pass, &mut link)?);
