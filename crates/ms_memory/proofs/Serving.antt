@@ -25,13 +25,17 @@ use Rattle.ms_record.specs.Logs.{HasPut}
 pub owned : (P : ℕ → Type 0) (word : Option ℕ) (service : ℕ) → word ≡ Some service → IfSome word P → P service
 owned P word service is h = subst (λ (w : Option ℕ). IfSome w P) is h
 
+-- what the configuration told stays known
+pub told_stays : (old new : View) → Begins old new → 0 < length (list_at old configuration) → 0 < length (list_at new configuration)
+told_stays old new begins some = let longer = prefix_length (list_at old configuration) (list_at new configuration) (begins configuration) in omega arith
+
 -- what is kept agrees with a pass that knows more
 pub agrees_more : (board : TableId) (service : ℕ) (shelf more : Shelf) (old new : Known Item) → Agrees board service shelf old → new.board ≡ old.board → new.word ≡ old.word
     → Begins old.lists new.lists → Holds more (log_in new.lists service) → Agrees board service more new
 agrees_more board service shelf more old new h same_board same_word begins holds = record {
   on_board = same_board ∙ h.on_board;
   owns = same_word ∙ h.owns;
-  told = (let longer = prefix_length (list_at old.lists configuration) (list_at new.lists configuration) (begins configuration) in let some = h.told in omega arith);
+  told = told_stays old.lists new.lists begins h.told;
   holds = holds;
 }
 

@@ -1,11 +1,11 @@
 //! A link to a service in memory.
 
-ghost use Rattle.std.specs.Prelude.{◌≡◌, true};
+ghost use Rattle.std.specs.Prelude.{◌≡◌};
 ghost use Rattle.std.specs.Arc.{arc_value};
 ghost use Rattle.ms_base.specs.Counts.{Rose};
 ghost use Rattle.ms_core.specs.Views.{IsClosed};
 ghost use Rattle.ms_ken.specs.Lists.{MayFollow};
-ghost use Rattle.ms_link.specs.Links.{Learns, IsOnBoard};
+ghost use Rattle.ms_link.specs.Links.{Learns};
 ghost use Rattle.ms_memory.specs.Served.{Changes};
 ghost use Rattle.ms_record.specs.declared.item.Item.TheVariants.{Log};
 
@@ -33,8 +33,7 @@ impl<R: Wait, J: Naming> MemoryLink<R, J> {
         MemoryLink { rt, home }
     }
 
-    /// Adds the event to the service's log, under its lock. What lies there has a number of its own; were it another than the
-    /// link's, the answer would be `NoMemory`.
+    /// Adds the event to the service's log, under its lock. `NoMemory` also where the lock's value had another number.
     fn change(
         &self,
         alloc: Global,
@@ -49,7 +48,7 @@ impl<R: Wait, J: Naming> MemoryLink<R, J> {
     {
         let mut guard = self.home.state.lock(&self.rt);
         let state = &mut *guard;
-        if state.service() != self.home.service {
+        if !self.home.has_number(state.service()) {
             return Err(LinkError::NoMemory);
         }
         state.take(alloc, board, pass, event)
@@ -92,7 +91,7 @@ impl<R: Wait, J: Naming> Link<FoldClosed> for MemoryLink<R, J> {
     ) -> Result<Texts, LinkError> {
         let mut guard = self.home.state.lock(&self.rt);
         let state = &mut *guard;
-        if state.service() != self.home.service {
+        if !self.home.has_number(state.service()) {
             return Err(LinkError::NoMemory);
         }
         state.show(board, pass);
@@ -126,7 +125,7 @@ impl<R: Wait, J: Naming> Link<FoldClosed> for MemoryLink<R, J> {
     ) -> Result<bool, LinkError> {
         let mut guard = self.home.state.lock(&self.rt);
         let state = &mut *guard;
-        if state.service() != self.home.service {
+        if !self.home.has_number(state.service()) {
             return Err(LinkError::NoMemory);
         }
         state.show(board, pass);
@@ -147,7 +146,7 @@ impl<R: Wait, J: Naming> Link<FoldClosed> for MemoryLink<R, J> {
     ) -> Result<Option<Bytes>, LinkError> {
         let mut guard = self.home.state.lock(&self.rt);
         let state = &mut *guard;
-        if state.service() != self.home.service {
+        if !self.home.has_number(state.service()) {
             return Err(LinkError::NoMemory);
         }
         state.show(board, pass);

@@ -1,6 +1,6 @@
 //! A service that threads share.
 
-ghost use Rattle.std.specs.Prelude.{◌≡◌, ◌<◌, [], length, Some, IfOk, IsOk};
+ghost use Rattle.std.specs.Prelude.{◌≡◌, ◌↔◌, ◌<◌, [], length, Some, IfOk, IsOk, IsTrue};
 ghost use Rattle.ms_core.specs.Views.{configuration};
 ghost use Rattle.ms_ken.specs.Lists.{list_at};
 ghost use Rattle.ms_link.specs.Links.{Learns};
@@ -39,9 +39,17 @@ impl<J: Naming> MemoryService<J> {
         })
     }
 
-    /// Under the lock the pass takes a note of the service's pass. It takes no memory.
+    /// Whether the number that was found under the lock is the service's.
+    pub(crate) fn has_number(&self, found: ServiceId) -> bool
+        ensures { IsTrue result ↔ (found.0 ≡ self.now.service.0) }
+    {
+        found == self.service
+    }
+
+    /// Under the lock the pass takes a note of the service's pass, which knows what the configuration told. It takes no memory.
     pub fn show<R: Wait>(&self, rt: &R, board: &Common, pass: &mut Know)
         requires board { (board.now ≡ J.board) × (pass.old.board ≡ J.board) }
+        ensures configuration { 0 < length (list_at pass.new.lists configuration) }
         ensures pass { Learns pass.old pass.new }
     {
         self.state.lock(rt).show(board, pass);

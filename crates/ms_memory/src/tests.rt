@@ -151,6 +151,15 @@ fn get<L: Link<FoldClosed>>(
     link.get(alloc, board, pass, generation, &NAME)
 }
 
+/// Shows a pass what the service's pass knows.
+fn show<J: Naming, R: Wait>(rt: &R, board: &Common, home: &MemoryService<J>, pass: &mut Know)
+    requires board { board.now ≡ J.board }
+    requires ready { IsReady J.board 0 pass.old }
+    ensures ready { IsReady J.board 0 pass.new }
+{
+    home.show(rt, board, pass);
+}
+
 fn is_text(kept: &Option<Bytes>, text: &[u8]) -> bool {
     match kept {
         Some(kept) => kept.as_slice() == text,
@@ -196,6 +205,7 @@ fn puts_on<J: Naming, R: Wait + Abort + Drop + Copy>(
     requires passes { ArePasses board.now 33 passes.items }
 {
     let (home, mut pass) = home::<J>(alloc, board, passes)?;
+    show(&rt, board, &home, &mut pass);
     let mut link = MemoryLink::new(rt, home);
     assert!(&rt; !has(alloc, board, &mut pass, &mut link, 1)?);
     put(alloc, board, &mut pass, &mut link, 1, b"first")?;
@@ -346,7 +356,6 @@ fn mismatch_on<J: Naming, R: Wait + Abort + Drop + Copy>(
         service: ServiceId(1),
         state: Mutex::new(ServiceState::new(alloc, ServiceId(0), service)),
     };
-    home.show(&rt, board, &mut pass);
     let mut link = MemoryLink::new(rt, Arc::new(alloc, home)?);
     let refused = append(alloc, board, &mut pass, &mut link, VOTES, b"vote");
     assert_eq!(&rt; refused, Err(LinkError::NoMemory));

@@ -11,8 +11,8 @@ take-requires-clause-closed g c =
     let same : c.deref_mut-state.result.now.service ≡ (arc_value c.args.self.now.home).service.0 = search rules in
     subst (λ n. MayFollow IsClosed g.J.Naming.board.words c.args.pass.now.lists n (Log c.args.event)) (sym same) c.requires.closed
 
-pub returns-then-ne-clause-changes : goal.returns-then-ne-clause-changes
-returns-then-ne-clause-changes g c = let number = (arc_value c.args.self.now.home).service.0 in record { state = served number []; after = served number []; number = refl; adds = refl }
+pub returns-then-not-has_number-clause-changes : goal.returns-then-not-has_number-clause-changes
+returns-then-not-has_number-clause-changes g c = let number = (arc_value c.args.self.now.home).service.0 in record { state = served number []; after = served number []; number = refl; adds = refl }
 
 pub returns-clause-changes : goal.returns-clause-changes
 returns-clause-changes g c =
