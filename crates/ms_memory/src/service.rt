@@ -21,11 +21,7 @@ pub struct MemoryService<J: Naming> {
 
 impl<J: Naming> MemoryService<J> {
     /// A service to which nothing has happened, with the pass that owns its word.
-    pub fn new(
-        alloc: Global,
-        service: ServiceId,
-        pass: Know,
-    ) -> Result<MemoryService<J>, NoMemory>
+    pub fn new(alloc: Global, service: ServiceId, pass: Know) -> Result<MemoryService<J>, NoMemory>
         requires board { pass.board ≡ J.board }
         requires word { pass.word ≡ Some service.0 }
         requires empty { list_at pass.lists service.0 ≡ [] }

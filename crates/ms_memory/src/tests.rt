@@ -187,9 +187,18 @@ fn appends_on<J: Naming, R: Wait + Abort + Drop + Copy>(
     assert_eq!(&rt; texts.len(), 2);
     assert!(&rt; texts[0].as_slice() == b"two".as_slice());
     assert!(&rt; texts[1].as_slice() == b"three".as_slice());
-    assert_eq!(&rt; list(alloc, board, &mut pass, &mut link, VOTES, 4)?.len(), 0);
-    assert_eq!(&rt; list(alloc, board, &mut pass, &mut link, ListId(1), 0)?.len(), 1);
-    assert_eq!(&rt; list(alloc, board, &mut pass, &mut link, ListId(2), 0)?.len(), 0);
+    assert_eq!(&rt;
+        list(alloc, board, &mut pass, &mut link, VOTES, 4)?.len(),
+        0
+    );
+    assert_eq!(&rt;
+        list(alloc, board, &mut pass, &mut link, ListId(1), 0)?.len(),
+        1
+    );
+    assert_eq!(&rt;
+        list(alloc, board, &mut pass, &mut link, ListId(2), 0)?.len(),
+        0
+    );
     assert_eq!(&rt; link.service(), ServiceId(0));
     assert_eq!(&rt; link.faults(), 0);
     Ok(())
@@ -234,11 +243,17 @@ fn drops_on<J: Naming, R: Wait + Abort + Drop + Copy>(
     put(alloc, board, &mut pass, &mut link, 2, b"new")?;
     drop_below(alloc, board, &mut pass, &mut link, 2)?;
     drop_below(alloc, board, &mut pass, &mut link, 1)?;
-    assert_eq!(&rt; put(alloc, board, &mut pass, &mut link, 1, b"late"), Err(stale));
+    assert_eq!(&rt;
+        put(alloc, board, &mut pass, &mut link, 1, b"late"),
+        Err(stale)
+    );
     assert_eq!(&rt; has(alloc, board, &mut pass, &mut link, 1), Err(stale));
     assert!(&rt; get(alloc, board, &mut pass, &mut link, 1).is_err());
     assert!(&rt; is_text(&get(alloc, board, &mut pass, &mut link, 2)?, b"new"));
-    assert_eq!(&rt; list(alloc, board, &mut pass, &mut link, VOTES, 0)?.len(), 1);
+    assert_eq!(&rt;
+        list(alloc, board, &mut pass, &mut link, VOTES, 0)?.len(),
+        1
+    );
     Ok(())
 }
 

@@ -1,7 +1,6 @@
-use Rattle.std.proofs.Common.{◌≡◌, ℕ, true, sym, ap, ◌∙◌, subst, rules}
+use Rattle.std.proofs.Common.{◌≡◌, true, rules}
 use Rattle.std.specs.Arc.{arc_value}
-use Rattle.ms_core.specs.Views.{log_in}
-use Rattle.ms_link.specs.Links.{LinkView, IsAbove, log_known}
+use Rattle.ms_link.specs.Links.{LinkView, log_known}
 use Rattle.ms_memory.proofs.Linking.{has_says, stale_says}
 use Rattle.ms_memory.proofs.Serving.{is_above}
 use Rattle.ms_memory.proofs.link.MemoryLinkLinkFoldClosed.has.Goals as goal

@@ -1,5 +1,4 @@
 use Rattle.std.proofs.Common.{◌≡◌, List, ap, subst, sym}
-use Rattle.ms_core.specs.Views.{log_in}
 use Rattle.ms_ken.specs.Lists.{list_at}
 use Rattle.ms_memory.proofs.Serving.{agrees_more, owned, told_stays}
 use Rattle.ms_memory.specs.Shelves.{Holds}
