@@ -10,13 +10,22 @@ use ms_base::{NoMemory, ServiceId};
 use ms_core::{Common, Know};
 use ms_ken::Naming;
 use std::alloc::Global;
+use std::marker::Model;
 use std::sync::{Mutex, Wait};
 
-/// A service behind a lock, which threads share.
+/// A service behind a lock, which threads share. To a contract it is its number.
 #[derive(Drop)]
 pub struct MemoryService<J: Naming> {
     pub(crate) service: ServiceId,
     pub(crate) state: Mutex<ServiceState<J>>,
+}
+
+impl<J: Naming> Model for MemoryService<J> {
+    ghost use Rattle.std.specs.Prelude.{ℕ};
+
+    ghost Value = { ℕ };
+
+    ghost view = { λ s. s.service.0 };
 }
 
 impl<J: Naming> MemoryService<J> {
@@ -27,7 +36,7 @@ impl<J: Naming> MemoryService<J> {
         requires empty { list_at pass.lists service.0 ≡ [] }
         requires told { 0 < length (list_at pass.lists configuration) }
         ensures made { IsOk result }
-        ensures service { IfOk result (λ home. home.service ≡ service) }
+        ensures service { IfOk result (λ home. home ≡ service.0) }
     {
         Ok(MemoryService {
             service,
@@ -35,9 +44,16 @@ impl<J: Naming> MemoryService<J> {
         })
     }
 
+    /// Its number.
+    pub fn service(&self) -> ServiceId
+        ensures { result.0 ≡ self.now }
+    {
+        self.service
+    }
+
     /// Whether the number that was found under the lock is the service's.
     pub(crate) fn has_number(&self, found: ServiceId) -> bool
-        ensures { IsTrue result ↔ (found.0 ≡ self.now.service.0) }
+        ensures { IsTrue result ↔ (found.0 ≡ self.now) }
     {
         found == self.service
     }

@@ -47,7 +47,7 @@ fn home<J: Naming>(
 ) -> Result<(Arc<MemoryService<J>, Global>, Know), Fail>
     requires board { board.now ≡ J.board }
     requires passes { ArePasses board.now 33 passes.items }
-    ensures service { IfOk result (λ r. (arc_value r.0).service.0 ≡ 0) }
+    ensures service { IfOk result (λ r. arc_value r.0 ≡ 0) }
     ensures pass { IfOk result (λ r. IsReady J.board 0 r.1) }
 {
     let (pass, service) = begun(board, passes).ok_or("two passes")?;
@@ -311,12 +311,12 @@ fn threads_on<J: Naming + Send + Sync, R: Threads + Wait + Abort + Copy + Drop +
         &rt,
         move || -> bool
             requires board { board.now ≡ J.board }
-            requires service { (arc_value first.home).service.0 ≡ 0 }
+            requires service { first ≡ 0 }
             requires ready { IsReady J.board 0 one }
         { append_hundred(alloc, board, one, first, 1) },
         move || -> bool
             requires board { board.now ≡ J.board }
-            requires service { (arc_value second.home).service.0 ≡ 0 }
+            requires service { second ≡ 0 }
             requires ready { IsReady J.board 0 two }
         { append_hundred(alloc, board, two, second, 2) },
     );
