@@ -1,8 +1,8 @@
 -- On a board on which nothing is claimed any event may follow.
-use Rattle.std.proofs.Common.{◌≡◌, ◌≢◌, ℕ, ◌<◌, List, [], ◌∷◌, ◌++◌, length, refl, sym, ◌∙◌, ap, subst, inl, inr, arith}
+use Rattle.std.proofs.Common.{◌≡◌, ◌≢◌, ℕ, ◌<◌, List, [], ◌∷◌, sym, ◌∙◌, ap, subst, inl, inr, arith}
 use mathlib.Core.List.{IsPrefix}
 use Rattle.ms_core.specs.Views.{View, configuration, IsClosed}
-use Rattle.ms_ken.specs.Lists.{list_at, Begins, MayFollow, with_item}
+use Rattle.ms_ken.specs.Lists.{list_at, Begins, MayFollow}
 use Rattle.ms_ken.specs.Prefixes.{prefix_trans}
 use Rattle.ms_ken.specs.Rows.{item_else}
 use Rattle.ms_ken.specs.Known.{Known}

@@ -9,7 +9,7 @@ use Rattle.ms_memory.specs.Shelves.{IsFirstPut}
 use Rattle.ms_record.specs.declared.log.ListId.{ListId}
 use Rattle.ms_record.specs.declared.log.LogEvent.{LogEvent}
 use Rattle.ms_record.specs.declared.log.LogEvent.TheVariants.{Rec, Put, Drop}
-use Rattle.ms_record.specs.Logs.{texts_in, HasPut}
+use Rattle.ms_record.specs.Logs.{texts_in}
 
 -- ---- the texts of a list
 

@@ -1,10 +1,9 @@
 -- What is kept once an event was added is what the longer log leaves.
-use Rattle.std.proofs.Common.{◌≡◌, ◌≢◌, ℕ, ◌<◌, ◌≤◌, List, [], ◌∷◌, ◌++◌, Option, Some, None, refl, sym, ap, ◌∙◌, subst, inl, inr, arith, append-nil, Contains}
+use Rattle.std.proofs.Common.{◌≡◌, ◌≢◌, ℕ, ◌<◌, ◌≤◌, List, [], ◌∷◌, ◌++◌, Option, Some, None, refl, sym, ap, ◌∙◌, subst, inl, inr, arith, append-nil}
 use Rattle.std.specs.Prelude.{unwrap_or}
 use mathlib.Core.Logic.{dite}
 use native.Mathlib.Decide.{ℕ_discrete}
 use Rattle.ms_base.specs.declared.names.Name.{Name}
-use Rattle.ms_core.specs.Floors.{IsFloor}
 use Rattle.ms_memory.proofs.Holding.{texts_in-append, texts_here, texts_else, first_stays, first_put, floor_stays, floor_kept, floor_raised}
 use Rattle.ms_memory.proofs.Storing.{which_spot}
 use Rattle.ms_memory.specs.Shelves.{Holds, IsFirstPut, texts_at, text_at}

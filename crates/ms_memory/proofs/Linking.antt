@@ -13,7 +13,7 @@ use Rattle.ms_link.specs.declared.fault.LinkError.{LinkError}
 use Rattle.ms_link.specs.declared.fault.LinkError.TheVariants as errors
 use Rattle.ms_memory.proofs.Holding.{first_has}
 use Rattle.ms_memory.proofs.Serving.{log_more}
-use Rattle.ms_memory.specs.Served.{Served, LearnsEvent, Adds, Changes}
+use Rattle.ms_memory.specs.Served.{Served, LearnsEvent, Changes}
 use Rattle.ms_memory.specs.Shelves.{IsFirstPut}
 use Rattle.ms_record.specs.declared.item.Item.{Item}
 use Rattle.ms_record.specs.declared.item.Item.TheVariants.{Log}

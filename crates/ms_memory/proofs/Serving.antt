@@ -1,13 +1,13 @@
 -- Passes of a service and of its caller: what they know after they met, and after the service told.
 use Rattle.std.proofs.Common.{◌≡◌, inl, inr, ℕ, ◌<◌, ◌≤◌, List, [], ◌∷◌, ◌++◌, length, Option, Some, None, refl, sym, ap, ◌∙◌, subst, arith}
 use Rattle.std.proofs.lemmas.List.Elements.{filter_map-append}
-use Rattle.std.specs.Prelude.{IfSome, IsTrue, ◌↔◌, is_some, Contains}
+use Rattle.std.specs.Prelude.{IfSome, IsTrue, ◌↔◌, is_some}
 use mathlib.Core.List.{IsPrefix}
 use Rattle.ms_base.specs.declared.names.Name.{Name}
 use Rattle.ms_core.specs.Floors.{IsFloor}
 use Rattle.ms_core.specs.Views.{View, configuration, log_in}
 use Rattle.ms_ken.specs.Known.{TableId, Known}
-use Rattle.ms_ken.specs.Lists.{list_at, Begins, MayFollow, longer_lists, with_item, with_told}
+use Rattle.ms_ken.specs.Lists.{list_at, Begins, MayFollow, longer_lists, with_told}
 use Rattle.ms_ken.specs.Prefixes.{longer_of_prefix, prefix_length}
 use Rattle.ms_ken.specs.Rows.{begins_told, begins_trans, item_here, list_at-longer_lists}
 use Rattle.ms_link.specs.Links.{IsAbove, Learns}
@@ -25,13 +25,17 @@ use Rattle.ms_record.specs.Logs.{HasPut}
 pub owned : (P : ℕ → Type 0) (word : Option ℕ) (service : ℕ) → word ≡ Some service → IfSome word P → P service
 owned P word service is h = subst (λ (w : Option ℕ). IfSome w P) is h
 
+-- what the configuration told stays known
+pub told_stays : (old new : View) → Begins old new → 0 < length (list_at old configuration) → 0 < length (list_at new configuration)
+told_stays old new begins some = let longer = prefix_length (list_at old configuration) (list_at new configuration) (begins configuration) in omega arith
+
 -- what is kept agrees with a pass that knows more
 pub agrees_more : (board : TableId) (service : ℕ) (shelf more : Shelf) (old new : Known Item) → Agrees board service shelf old → new.board ≡ old.board → new.word ≡ old.word
     → Begins old.lists new.lists → Holds more (log_in new.lists service) → Agrees board service more new
 agrees_more board service shelf more old new h same_board same_word begins holds = record {
   on_board = same_board ∙ h.on_board;
   owns = same_word ∙ h.owns;
-  told = (let longer = prefix_length (list_at old.lists configuration) (list_at new.lists configuration) (begins configuration) in let some = h.told in omega arith);
+  told = told_stays old.lists new.lists begins h.told;
   holds = holds;
 }
 
@@ -67,7 +71,7 @@ pub told_agrees : (board : TableId) (service : ℕ) (shelf more : Shelf) (old on
     → Agrees board service more told × (log_in told.lists service ≡ log_in old.lists service ++ event ∷ [])
 told_agrees board service shelf more old one told event h same_board same_word begins own wide within is keeps =
     let here : list_at told.lists service ≡ list_at one.lists service ++ Log event ∷ [] =
-        ap (λ p. list_at p.lists service) is ∙ told_here one.lists one.word service one.board.words (Log event) (same_word ∙ h.owns) wide within in
+    ap (λ p. list_at p.lists service) is ∙ told_here one.lists one.word service one.board.words (Log event) (same_word ∙ h.owns) wide within in
     let log : log_in told.lists service ≡ log_in old.lists service ++ event ∷ [] = ap events_of (here ∙ ap (λ l. l ++ Log event ∷ []) own) ∙ log_more (list_at old.lists service) event in
     let grown : Begins one.lists told.lists = subst (λ (p : Known Item). Begins one.lists p.lists) (sym is) (begins_told one.lists one.word (Log event)) in
     let holds : Holds more (log_in told.lists service) = subst (λ (l : List LogEvent). Holds more l) (sym log) (keeps (log_in old.lists service) h.holds) in (

@@ -66,7 +66,6 @@ pub written_others : (old new : Places) (generation : ℕ) (name : Name) (text :
 written_others old new generation name text h g n other =
     ap text_there (h (spot g n) ∙ ap (λ (b : Bool). cond b (Some text) (old (spot g n))) (other_spot generation name g n other))
 
-
 -- ---- what a drop leaves
 
 abbrev found : Spot → List (Spot × Option (List ℕ)) → Option (Option (List ℕ))

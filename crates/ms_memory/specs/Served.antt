@@ -1,7 +1,6 @@
 -- What contracts see of a service behind a lock, and what a change of it leaves.
-use Rattle.std.specs.Prelude.{◌≡◌, ℕ, ◌<◌, ◌≤◌, List, [], ◌∷◌, ◌++◌, length, Option, Some, None, Result, Ok, Err, Contains, IsSome, MatchOption}
+use Rattle.std.specs.Prelude.{◌≡◌, ℕ, ◌<◌, List, [], ◌∷◌, ◌++◌, length, Some, Result, Ok, Err}
 use mathlib.Core.List.{IsPrefix}
-use Rattle.ms_base.specs.declared.names.Name.{Name}
 use Rattle.ms_core.specs.Floors.{IsFloor}
 use Rattle.ms_core.specs.Views.{configuration, log_in}
 use Rattle.ms_ken.specs.Known.{TableId, Known}

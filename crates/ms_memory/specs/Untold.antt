@@ -1,5 +1,5 @@
 -- A board on which nothing is claimed: a small case of closed views, for the tests.
-use Rattle.std.specs.Prelude.{◌≡◌, ℕ, ◌<◌, [], ◌∷◌, Some}
+use Rattle.std.specs.Prelude.{◌≡◌, ℕ, ◌<◌, [], ◌∷◌}
 use mathlib.Core.List.{IsPrefix}
 use Rattle.ms_core.specs.Views.{View, configuration}
 use Rattle.ms_ken.specs.Known.{TableId, Known}

@@ -1,11 +1,11 @@
 //! A link to a service in memory.
 
-ghost use Rattle.std.specs.Prelude.{◌≡◌, true};
+ghost use Rattle.std.specs.Prelude.{◌≡◌, ℕ};
 ghost use Rattle.std.specs.Arc.{arc_value};
 ghost use Rattle.ms_base.specs.Counts.{Rose};
 ghost use Rattle.ms_core.specs.Views.{IsClosed};
 ghost use Rattle.ms_ken.specs.Lists.{MayFollow};
-ghost use Rattle.ms_link.specs.Links.{Learns, IsOnBoard};
+ghost use Rattle.ms_link.specs.Links.{Learns};
 ghost use Rattle.ms_memory.specs.Served.{Changes};
 ghost use Rattle.ms_record.specs.declared.item.Item.TheVariants.{Log};
 
@@ -16,25 +16,35 @@ use ms_ken::Naming;
 use ms_link::{Link, LinkError, Texts};
 use ms_record::{ListId, LogEvent};
 use std::alloc::Global;
+use std::marker::Model;
 use std::sync::{Arc, Wait};
 
-/// A link to a service in memory. It has the handle by which it may wait for the service's lock, and never fails.
+/// A link to a service in memory. It has the handle by which it may wait for the service's lock, and never fails. To a contract it
+/// is its service's number.
 #[derive(Drop)]
 pub struct MemoryLink<R: Wait, J: Naming> {
     rt: R,
     home: Arc<MemoryService<J>, Global>,
 }
 
+impl<R: Wait, J: Naming> Model for MemoryLink<R, J> {
+    ghost use Rattle.std.specs.Prelude.{ℕ};
+    ghost use Rattle.std.specs.Arc.{arc_value};
+
+    ghost Value = { ℕ };
+
+    ghost view = { λ l. arc_value l.home };
+}
+
 impl<R: Wait, J: Naming> MemoryLink<R, J> {
     /// A link to this service.
     pub fn new(rt: R, home: Arc<MemoryService<J>, Global>) -> MemoryLink<R, J>
-        ensures { result.home ≡ home }
+        ensures { result ≡ arc_value home }
     {
         MemoryLink { rt, home }
     }
 
-    /// Adds the event to the service's log, under its lock. What lies there has a number of its own; were it another than the
-    /// link's, the answer would be `NoMemory`.
+    /// Adds the event to the service's log, under its lock. `NoMemory` also where the lock's value had another number.
     fn change(
         &self,
         alloc: Global,
@@ -43,13 +53,13 @@ impl<R: Wait, J: Naming> MemoryLink<R, J> {
         event: LogEvent,
     ) -> Result<(), LinkError>
         requires board { (board.now ≡ J.board) × (pass.old.board ≡ J.board) }
-        requires closed { MayFollow IsClosed J.board.words pass.old.lists (arc_value self.now.home).service.0 (Log event) }
-        ensures changes { Changes (arc_value self.now.home).service.0 pass.old pass.new event result }
+        requires closed { MayFollow IsClosed J.board.words pass.old.lists self.now (Log event) }
+        ensures changes { Changes self.now pass.old pass.new event result }
         ensures pass { Learns pass.old pass.new }
     {
         let mut guard = self.home.state.lock(&self.rt);
         let state = &mut *guard;
-        if state.service() != self.home.service {
+        if !self.home.has_number(state.service()) {
             return Err(LinkError::NoMemory);
         }
         state.take(alloc, board, pass, event)
@@ -58,12 +68,11 @@ impl<R: Wait, J: Naming> MemoryLink<R, J> {
 
 impl<R: Wait, J: Naming> Link<FoldClosed> for MemoryLink<R, J> {
     ghost use Rattle.std.specs.Prelude.{true};
-    ghost use Rattle.std.specs.Arc.{arc_value};
 
-    ghost sees = { λ l. record { board = J.board; service = (arc_value l.home).service.0; faults = 0; lists = true; objects = true } };
+    ghost sees = { λ l. record { board = J.board; service = l; faults = 0; lists = true; objects = true } };
 
     fn service(&self) -> ServiceId {
-        self.home.service
+        self.home.service()
     }
 
     fn faults(&self) -> u64 {
@@ -92,7 +101,7 @@ impl<R: Wait, J: Naming> Link<FoldClosed> for MemoryLink<R, J> {
     ) -> Result<Texts, LinkError> {
         let mut guard = self.home.state.lock(&self.rt);
         let state = &mut *guard;
-        if state.service() != self.home.service {
+        if !self.home.has_number(state.service()) {
             return Err(LinkError::NoMemory);
         }
         state.show(board, pass);
@@ -126,7 +135,7 @@ impl<R: Wait, J: Naming> Link<FoldClosed> for MemoryLink<R, J> {
     ) -> Result<bool, LinkError> {
         let mut guard = self.home.state.lock(&self.rt);
         let state = &mut *guard;
-        if state.service() != self.home.service {
+        if !self.home.has_number(state.service()) {
             return Err(LinkError::NoMemory);
         }
         state.show(board, pass);
@@ -147,7 +156,7 @@ impl<R: Wait, J: Naming> Link<FoldClosed> for MemoryLink<R, J> {
     ) -> Result<Option<Bytes>, LinkError> {
         let mut guard = self.home.state.lock(&self.rt);
         let state = &mut *guard;
-        if state.service() != self.home.service {
+        if !self.home.has_number(state.service()) {
             return Err(LinkError::NoMemory);
         }
         state.show(board, pass);
@@ -171,5 +180,5 @@ impl<R: Wait, J: Naming> Link<FoldClosed> for MemoryLink<R, J> {
 
 /// A link in memory never fails: `Failed` comes only where the count of faults rose, and its count stays 0. It does nothing.
 pub fn never_fails<R: Wait, J: Naming>()
-    ensures { (old new : MemoryLink R J) → Rose (⟦<MemoryLink<R, J> as Link<FoldClosed>>⟧.sees old).faults (⟦<MemoryLink<R, J> as Link<FoldClosed>>⟧.sees new).faults → ⊥ }
+    ensures { (old new : ℕ) → Rose (⟦<MemoryLink<R, J> as Link<FoldClosed>>⟧.sees old).faults (⟦<MemoryLink<R, J> as Link<FoldClosed>>⟧.sees new).faults → ⊥ }
 {}

@@ -116,6 +116,7 @@ impl<J: Naming> ServiceState<J> {
         requires board { (board.now ≡ J.board) × (pass.old.board ≡ J.board) }
         ensures same { self.new ≡ self.old }
         ensures log { KnowsLog self.old pass.new }
+        ensures configuration { 0 < length (list_at pass.new.lists configuration) }
         ensures pass { Learns pass.old pass.new }
     {
         board.meet(&mut self.pass, pass);

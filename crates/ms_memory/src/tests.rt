@@ -47,7 +47,7 @@ fn home<J: Naming>(
 ) -> Result<(Arc<MemoryService<J>, Global>, Know), Fail>
     requires board { board.now ≡ J.board }
     requires passes { ArePasses board.now 33 passes.items }
-    ensures service { IfOk result (λ r. (arc_value r.0).service.0 ≡ 0) }
+    ensures service { IfOk result (λ r. arc_value r.0 ≡ 0) }
     ensures pass { IfOk result (λ r. IsReady J.board 0 r.1) }
 {
     let (pass, service) = begun(board, passes).ok_or("two passes")?;
@@ -151,6 +151,15 @@ fn get<L: Link<FoldClosed>>(
     link.get(alloc, board, pass, generation, &NAME)
 }
 
+/// Shows a pass what the service's pass knows.
+fn show<J: Naming, R: Wait>(rt: &R, board: &Common, home: &MemoryService<J>, pass: &mut Know)
+    requires board { board.now ≡ J.board }
+    requires ready { IsReady J.board 0 pass.old }
+    ensures ready { IsReady J.board 0 pass.new }
+{
+    home.show(rt, board, pass);
+}
+
 fn is_text(kept: &Option<Bytes>, text: &[u8]) -> bool {
     match kept {
         Some(kept) => kept.as_slice() == text,
@@ -178,9 +187,18 @@ fn appends_on<J: Naming, R: Wait + Abort + Drop + Copy>(
     assert_eq!(&rt; texts.len(), 2);
     assert!(&rt; texts[0].as_slice() == b"two".as_slice());
     assert!(&rt; texts[1].as_slice() == b"three".as_slice());
-    assert_eq!(&rt; list(alloc, board, &mut pass, &mut link, VOTES, 4)?.len(), 0);
-    assert_eq!(&rt; list(alloc, board, &mut pass, &mut link, ListId(1), 0)?.len(), 1);
-    assert_eq!(&rt; list(alloc, board, &mut pass, &mut link, ListId(2), 0)?.len(), 0);
+    assert_eq!(&rt;
+        list(alloc, board, &mut pass, &mut link, VOTES, 4)?.len(),
+        0
+    );
+    assert_eq!(&rt;
+        list(alloc, board, &mut pass, &mut link, ListId(1), 0)?.len(),
+        1
+    );
+    assert_eq!(&rt;
+        list(alloc, board, &mut pass, &mut link, ListId(2), 0)?.len(),
+        0
+    );
     assert_eq!(&rt; link.service(), ServiceId(0));
     assert_eq!(&rt; link.faults(), 0);
     Ok(())
@@ -196,6 +214,7 @@ fn puts_on<J: Naming, R: Wait + Abort + Drop + Copy>(
     requires passes { ArePasses board.now 33 passes.items }
 {
     let (home, mut pass) = home::<J>(alloc, board, passes)?;
+    show(&rt, board, &home, &mut pass);
     let mut link = MemoryLink::new(rt, home);
     assert!(&rt; !has(alloc, board, &mut pass, &mut link, 1)?);
     put(alloc, board, &mut pass, &mut link, 1, b"first")?;
@@ -224,11 +243,17 @@ fn drops_on<J: Naming, R: Wait + Abort + Drop + Copy>(
     put(alloc, board, &mut pass, &mut link, 2, b"new")?;
     drop_below(alloc, board, &mut pass, &mut link, 2)?;
     drop_below(alloc, board, &mut pass, &mut link, 1)?;
-    assert_eq!(&rt; put(alloc, board, &mut pass, &mut link, 1, b"late"), Err(stale));
+    assert_eq!(&rt;
+        put(alloc, board, &mut pass, &mut link, 1, b"late"),
+        Err(stale)
+    );
     assert_eq!(&rt; has(alloc, board, &mut pass, &mut link, 1), Err(stale));
     assert!(&rt; get(alloc, board, &mut pass, &mut link, 1).is_err());
     assert!(&rt; is_text(&get(alloc, board, &mut pass, &mut link, 2)?, b"new"));
-    assert_eq!(&rt; list(alloc, board, &mut pass, &mut link, VOTES, 0)?.len(), 1);
+    assert_eq!(&rt;
+        list(alloc, board, &mut pass, &mut link, VOTES, 0)?.len(),
+        1
+    );
     Ok(())
 }
 
@@ -286,12 +311,12 @@ fn threads_on<J: Naming + Send + Sync, R: Threads + Wait + Abort + Copy + Drop +
         &rt,
         move || -> bool
             requires board { board.now ≡ J.board }
-            requires service { (arc_value first.home).service.0 ≡ 0 }
+            requires service { first ≡ 0 }
             requires ready { IsReady J.board 0 one }
         { append_hundred(alloc, board, one, first, 1) },
         move || -> bool
             requires board { board.now ≡ J.board }
-            requires service { (arc_value second.home).service.0 ≡ 0 }
+            requires service { second ≡ 0 }
             requires ready { IsReady J.board 0 two }
         { append_hundred(alloc, board, two, second, 2) },
     );
@@ -346,7 +371,6 @@ fn mismatch_on<J: Naming, R: Wait + Abort + Drop + Copy>(
         service: ServiceId(1),
         state: Mutex::new(ServiceState::new(alloc, ServiceId(0), service)),
     };
-    home.show(&rt, board, &mut pass);
     let mut link = MemoryLink::new(rt, Arc::new(alloc, home)?);
     let refused = append(alloc, board, &mut pass, &mut link, VOTES, b"vote");
     assert_eq!(&rt; refused, Err(LinkError::NoMemory));

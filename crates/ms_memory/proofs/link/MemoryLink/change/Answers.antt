@@ -1,5 +1,4 @@
 use Rattle.std.proofs.Common.{◌≡◌, [], refl, sym, subst, rules}
-use Rattle.std.specs.Arc.{arc_value}
 use Rattle.ms_core.specs.Views.{IsClosed}
 use Rattle.ms_ken.specs.Lists.{MayFollow}
 use Rattle.ms_memory.specs.Served.{served}
@@ -8,13 +7,13 @@ use Rattle.ms_memory.proofs.link.MemoryLink.change.Goals as goal
 
 pub take-requires-clause-closed : goal.take-requires-clause-closed
 take-requires-clause-closed g c =
-    let same : c.deref_mut-state.result.now.service ≡ (arc_value c.args.self.now.home).service.0 = search rules in
+    let same : c.deref_mut-state.result.now.service ≡ c.args.self.now = search rules in
     subst (λ n. MayFollow IsClosed g.J.Naming.board.words c.args.pass.now.lists n (Log c.args.event)) (sym same) c.requires.closed
 
-pub returns-then-ne-clause-changes : goal.returns-then-ne-clause-changes
-returns-then-ne-clause-changes g c = let number = (arc_value c.args.self.now.home).service.0 in record { state = served number []; after = served number []; number = refl; adds = refl }
+pub returns-then-not-has_number-clause-changes : goal.returns-then-not-has_number-clause-changes
+returns-then-not-has_number-clause-changes g c = let number = c.args.self.now in record { state = served number []; after = served number []; number = refl; adds = refl }
 
 pub returns-clause-changes : goal.returns-clause-changes
 returns-clause-changes g c =
-    let same : c.deref_mut-state.result.now.service ≡ (arc_value c.args.self.now.home).service.0 = search rules in
+    let same : c.deref_mut-state.result.now.service ≡ c.args.self.now = search rules in
     record { state = c.deref_mut-state.result.now; after = c.take.new.self; number = same; adds = c.take.ensures.adds }

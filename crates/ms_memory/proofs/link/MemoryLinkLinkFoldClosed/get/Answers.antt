@@ -1,14 +1,12 @@
-use Rattle.std.proofs.Common.{◌≡◌, ℕ, true, sym, ap, ◌∙◌, subst, rules}
-use Rattle.std.specs.Arc.{arc_value}
-use Rattle.ms_core.specs.Views.{log_in}
-use Rattle.ms_link.specs.Links.{LinkView, IsAbove, log_known}
+use Rattle.std.proofs.Common.{◌≡◌, true, rules}
+use Rattle.ms_link.specs.Links.{LinkView, log_known}
 use Rattle.ms_memory.proofs.Linking.{gets_says, stale_says}
 use Rattle.ms_memory.proofs.Serving.{is_above}
 use Rattle.ms_memory.proofs.link.MemoryLinkLinkFoldClosed.get.Goals as goal
 
 pub returns-then-generation-floor-clause-gets : goal.returns-then-generation-floor-clause-gets
 returns-then-generation-floor-clause-gets g c =
-    let link : LinkView = record { board = g.J.Naming.board; service = (arc_value c.args.self.now.home).service.0; faults = 0; lists = true; objects = true } in
+    let link : LinkView = record { board = g.J.Naming.board; service = c.args.self.now; faults = 0; lists = true; objects = true } in
     let log : log_known link c.show.new.pass ≡ c.show.new.self.log = search rules in
     stale_says link c.show.new.pass c.show.new.self.log c.args.generation c.floor-floor.result c.if-generation-floor.true c.floor-floor.ensures log
 
@@ -17,7 +15,7 @@ get-requires g c = is_above c.show.new.self.log c.floor-floor.result c.args.gene
 
 pub returns-clause-gets : goal.returns-clause-gets
 returns-clause-gets g c =
-    let link : LinkView = record { board = g.J.Naming.board; service = (arc_value c.args.self.now.home).service.0; faults = 0; lists = true; objects = true } in
+    let link : LinkView = record { board = g.J.Naming.board; service = c.args.self.now; faults = 0; lists = true; objects = true } in
     let log : log_known link c.show.new.pass ≡ c.show.new.self.log = search rules in
     let above = is_above c.show.new.self.log c.floor-floor.result c.args.generation c.floor-floor.ensures c.if-generation-floor.false in
     gets_says link link c.show.new.pass c.show.new.self.log c.args.generation c.args.name.now c.in_ok-get.field-0 log above c.in_ok-get.ensures

@@ -1,7 +1,6 @@
-use Rattle.std.proofs.Common.{List, [], ◌∷◌, ◌++◌, ◌≤◌, sym, subst}
+use Rattle.std.proofs.Common.{[], ◌∷◌, ◌++◌, sym, subst}
 use Rattle.ms_memory.proofs.Keeping.{rec_kept, put_kept, drop_raised, drop_kept}
 use Rattle.ms_memory.specs.Shelves.{Holds, IsOpenTo}
-use Rattle.ms_memory.specs.declared.shelf.Shelf.{Shelf}
 use Rattle.ms_record.specs.declared.log.LogEvent.{LogEvent}
 use Rattle.ms_memory.proofs.shelf.Shelf.keep.Goals as goal
 

@@ -1,5 +1,4 @@
-use Rattle.std.proofs.Common.{◌≡◌, List, None, sym, subst, rules}
-use Rattle.std.specs.Prelude.{Option, ℕ}
+use Rattle.std.proofs.Common.{◌≡◌, None, sym, subst, rules}
 use Rattle.ms_core.specs.Views.{log_in}
 use Rattle.ms_link.specs.Links.{IsAbove}
 use Rattle.ms_memory.proofs.Serving.{above_floor, none_put}

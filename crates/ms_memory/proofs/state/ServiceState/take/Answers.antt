@@ -1,11 +1,8 @@
-use Rattle.std.proofs.Common.{◌≡◌, ℕ, ◌<◌, List, [], ◌∷◌, ◌++◌, length, sym, ap, ◌∙◌, subst, rules}
-use Rattle.std.specs.Prelude.{IfSome}
-use Rattle.ms_core.specs.Views.{IsClosed, View, log_in}
-use Rattle.ms_ken.specs.Known.{Known}
-use Rattle.ms_ken.specs.Lists.{list_at, with_told, longer_lists, Begins}
-use Rattle.ms_ken.specs.Rows.{begins_trans}
+use Rattle.std.proofs.Common.{◌≡◌, List, [], ◌∷◌, ◌++◌, sym, ap, ◌∙◌, subst, rules}
+use Rattle.ms_core.specs.Views.{IsClosed, log_in}
+use Rattle.ms_ken.specs.Lists.{list_at, with_told, longer_lists}
 use Rattle.ms_link.specs.Links.{Learns}
-use Rattle.ms_memory.proofs.Serving.{agrees_more, owned, may_tell, log_more, told_here, learnt_here, learns_event, learns_then, taken_by, told_agrees}
+use Rattle.ms_memory.proofs.Serving.{agrees_more, owned, may_tell, learns_event, learns_then, taken_by, told_agrees}
 use Rattle.ms_memory.specs.Served.{Served, served, IsTakenBy, LearnsEvent}
 use Rattle.ms_memory.specs.Shelves.{Holds, IsOpenTo}
 use Rattle.ms_record.specs.declared.item.Item.{Item}
@@ -48,7 +45,7 @@ invariant_of-self-2 g c =
     let service = c.self.inside.service.0 in
     let own = owned (λ k. list_at one.lists k ≡ list_at old.lists k) old.word service c.self.invariant.owns met.own_one in
     let keeps : (log : List LogEvent) → Holds c.self.inside.shelf log → Holds c.keep.new.self (log ++ c.args.event ∷ []) =
-        λ log h. subst (λ (e : LogEvent). Holds c.keep.new.self (log ++ e ∷ [])) c.told-event.ensures.event (c.keep.ensures log (c.reserve.ensures.same log h)) in
+    λ log h. subst (λ (e : LogEvent). Holds c.keep.new.self (log ++ e ∷ [])) c.told-event.ensures.event (c.keep.ensures log (c.reserve.ensures.same log h)) in
     (told_agrees g.J.Naming.board service c.self.inside.shelf c.keep.new.self old one c.note.new.pass c.args.event c.self.invariant (ap (λ p. p.board) met.one) (ap (λ p. p.word) met.one) met.both_know_one.0 own
     c.recall.ensures.owners c.recall.ensures.word (c.note.ensures.same ∙ c.told-event.ensures.told) keeps).0
 
@@ -62,7 +59,7 @@ returns-clause-adds g c =
     let open_ : IsOpenTo c.self.inside.shelf.floor event = search rules in
     let own = owned (λ k. list_at one.lists k ≡ list_at old.lists k) old.word service c.self.invariant.owns met.own_one in
     let keeps : (log : List LogEvent) → Holds c.self.inside.shelf log → Holds c.keep.new.self (log ++ event ∷ []) =
-        λ log h. subst (λ (e : LogEvent). Holds c.keep.new.self (log ++ e ∷ [])) c.told-event.ensures.event (c.keep.ensures log (c.reserve.ensures.same log h)) in
+    λ log h. subst (λ (e : LogEvent). Holds c.keep.new.self (log ++ e ∷ [])) c.told-event.ensures.event (c.keep.ensures log (c.reserve.ensures.same log h)) in
     let log = (told_agrees g.J.Naming.board service c.self.inside.shelf c.keep.new.self old one c.note.new.pass event c.self.invariant (ap (λ p. p.board) met.one) (ap (λ p. p.word) met.one) met.both_know_one.0 own
     c.recall.ensures.owners c.recall.ensures.word (c.note.ensures.same ∙ c.told-event.ensures.told) keeps).1 in
     let noted : c.note.result.lists ≡ with_told one.lists one.word (Log event) = ap (λ p. p.lists) c.note.ensures.note ∙ ap (λ p. p.lists) c.told-event.ensures.told in

@@ -1,4 +1,4 @@
-use Rattle.std.proofs.Common.{◌≡◌, Option, Some, None, rules}
+use Rattle.std.proofs.Common.{◌≡◌, None, rules}
 use Rattle.std.specs.BTreeMap.{get}
 use Rattle.ms_memory.proofs.Storing.{reserved_same}
 use Rattle.ms_memory.specs.Shelves.{spot, spot_cmp}
