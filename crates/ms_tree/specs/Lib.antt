@@ -6,3 +6,4 @@ pub mod Listings
 pub mod Gathering
 pub mod Planting
 pub mod Folders
+pub mod Merging

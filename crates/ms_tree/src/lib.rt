@@ -5,6 +5,7 @@ pub mod files;
 pub mod gathering;
 pub mod limits;
 pub mod listing;
+pub mod merger;
 mod parts;
 pub mod path;
 pub mod planting;
@@ -13,6 +14,7 @@ pub use files::{FileRef, Files, file_laws};
 pub use gathering::{gather, one_tree};
 pub use limits::FilesError;
 pub use listing::read_listing;
+pub use merger::Merger;
 pub use path::{is_path, levels, long_part, path_laws};
 pub use planting::{Planted, plant};
 
