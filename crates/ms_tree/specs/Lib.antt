@@ -7,3 +7,5 @@ pub mod Gathering
 pub mod Planting
 pub mod Folders
 pub mod Merging
+pub mod DraftFiles
+pub mod DraftInside

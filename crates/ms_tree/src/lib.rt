@@ -1,6 +1,8 @@
 //! Trees of files by their paths, and their texts.
 #![tactic(auto)]
 
+mod entries;
+pub mod draft;
 pub mod files;
 pub mod gathering;
 pub mod limits;
@@ -10,6 +12,7 @@ mod parts;
 pub mod path;
 pub mod planting;
 
+pub use draft::{Draft, DraftFile};
 pub use files::{FileRef, Files, file_laws};
 pub use gathering::{gather, one_tree};
 pub use limits::FilesError;
