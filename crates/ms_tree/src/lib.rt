@@ -17,7 +17,7 @@ pub use files::{FileRef, Files, file_laws};
 pub use gathering::{gather, one_tree};
 pub use limits::FilesError;
 pub use listing::read_listing;
-pub use merger::Merger;
+pub use merger::{Merger, merge_laws};
 pub use path::{is_path, levels, long_part, path_laws};
 pub use planting::{Planted, plant};
 

@@ -1,6 +1,8 @@
 //! Merges of files, for those who are handed one.
 
-ghost use Rattle.ms_tree.specs.Merging.{IsTag, Merges};
+ghost use Rattle.std.specs.Prelude.{◌≡◌, ◌≤◌, ℕ, List, Some, length};
+ghost use Rattle.ms_tree.specs.Files.{FileList, text_at, IsFiles};
+ghost use Rattle.ms_tree.specs.Merging.{IsTag, IsMerge, names_of, Merges, KeepsLimits, KeepsChanges};
 
 use crate::files::Files;
 use ms_record::Refusal;
@@ -23,3 +25,15 @@ pub trait Merger {
         requires { IsTag tag.now }
         ensures { Merges base.now ours.now theirs.now tag.now result };
 }
+
+/// What is true of every merge: it is the only one, it loses no change of ours or of theirs, and of
+/// files that keep all rules it keeps all rules but the limits that `Merger::merge` names.
+pub fn merge_laws()
+    ensures one { (base ours theirs : FileList) (tag : List ℕ) (files others : FileList) → IsMerge base ours theirs tag files → IsMerge base ours theirs tag others → files ≡ others }
+    ensures ours { (base ours theirs : FileList) (tag : List ℕ) (files : FileList) → IsTag tag → IsMerge base ours theirs tag files → KeepsChanges base ours tag files }
+    ensures theirs { (base ours theirs : FileList) (tag : List ℕ) (files : FileList) → IsTag tag → IsMerge base ours theirs tag files → KeepsChanges base theirs tag files }
+    ensures short { (base ours theirs : FileList) (tag : List ℕ) (files : FileList) → IsTag tag → IsFiles base → IsFiles ours → IsFiles theirs → IsMerge base ours theirs tag files
+        → (path text : List ℕ) → text_at files path ≡ Some text → length text ≤ 67108864 }
+    ensures whole { (base ours theirs : FileList) (tag : List ℕ) (files : FileList) → IsTag tag → IsFiles base → IsFiles ours → IsFiles theirs → (merge : IsMerge base ours theirs tag files)
+        → KeepsLimits files (names_of merge) → IsFiles files }
+{}
