@@ -40,3 +40,6 @@ pub mod Whole
 pub mod Counting
 pub mod DraftLaws
 pub mod Building
+pub mod TaggedPaths
+pub mod MergeNames
+pub mod MergeLaws

@@ -98,6 +98,13 @@ pub record IsMerge (base ours theirs : FileList) (tag : List ℕ) (files : FileL
 abbrev pub names_of : {base ours theirs : FileList} {tag : List ℕ} {files : FileList} → IsMerge base ours theirs tag files → List (List ℕ)
 names_of merge = keys_of merge.doubled ++ keys_of merge.moved
 
+-- what may be merged: files that keep all rules, with a tag
+pub record MayMerge (base ours theirs : FileList) (tag : List ℕ) : Type 0 where
+  pub base_whole : IsFiles base
+  pub ours_whole : IsFiles ours
+  pub theirs_whole : IsFiles theirs
+  pub is_tag : IsTag tag
+
 -- the merge, which passes no limit
 pub record IsMerged (base ours theirs : FileList) (tag : List ℕ) (files : FileList) : Type 0 where
   pub merge : IsMerge base ours theirs tag files

@@ -2,7 +2,7 @@
 
 ghost use Rattle.std.specs.Prelude.{◌≡◌, ◌≤◌, ℕ, List, Some, length};
 ghost use Rattle.ms_tree.specs.Files.{FileList, text_at, IsFiles};
-ghost use Rattle.ms_tree.specs.Merging.{IsTag, IsMerge, names_of, Merges, KeepsLimits, KeepsChanges};
+ghost use Rattle.ms_tree.specs.Merging.{IsTag, MayMerge, IsMerge, names_of, Merges, KeepsLimits, KeepsChanges};
 
 use crate::files::Files;
 use ms_record::Refusal;
@@ -26,14 +26,14 @@ pub trait Merger {
         ensures { Merges base.now ours.now theirs.now tag.now result };
 }
 
-/// What is true of every merge: it is the only one, it loses no change of ours or of theirs, and of
-/// files that keep all rules it keeps all rules but the limits that `Merger::merge` names.
+/// What is true of every merge: it is the only one, it loses no change of ours or of theirs, and it
+/// keeps all rules of files but the limits that `Merger::merge` names.
 pub fn merge_laws()
     ensures one { (base ours theirs : FileList) (tag : List ℕ) (files others : FileList) → IsMerge base ours theirs tag files → IsMerge base ours theirs tag others → files ≡ others }
-    ensures ours { (base ours theirs : FileList) (tag : List ℕ) (files : FileList) → IsTag tag → IsMerge base ours theirs tag files → KeepsChanges base ours tag files }
-    ensures theirs { (base ours theirs : FileList) (tag : List ℕ) (files : FileList) → IsTag tag → IsMerge base ours theirs tag files → KeepsChanges base theirs tag files }
-    ensures short { (base ours theirs : FileList) (tag : List ℕ) (files : FileList) → IsTag tag → IsFiles base → IsFiles ours → IsFiles theirs → IsMerge base ours theirs tag files
+    ensures ours { (base ours theirs : FileList) (tag : List ℕ) (files : FileList) → MayMerge base ours theirs tag → IsMerge base ours theirs tag files → KeepsChanges base ours tag files }
+    ensures theirs { (base ours theirs : FileList) (tag : List ℕ) (files : FileList) → MayMerge base ours theirs tag → IsMerge base ours theirs tag files → KeepsChanges base theirs tag files }
+    ensures short { (base ours theirs : FileList) (tag : List ℕ) (files : FileList) → MayMerge base ours theirs tag → IsMerge base ours theirs tag files
         → (path text : List ℕ) → text_at files path ≡ Some text → length text ≤ 67108864 }
-    ensures whole { (base ours theirs : FileList) (tag : List ℕ) (files : FileList) → IsTag tag → IsFiles base → IsFiles ours → IsFiles theirs → (merge : IsMerge base ours theirs tag files)
+    ensures whole { (base ours theirs : FileList) (tag : List ℕ) (files : FileList) → MayMerge base ours theirs tag → (merge : IsMerge base ours theirs tag files)
         → KeepsLimits files (names_of merge) → IsFiles files }
 {}
