@@ -1,9 +1,8 @@
 //! The limits that merged files may pass.
 
-ghost use Rattle.std.specs.Prelude.{◌≡◌, ◌≤◌, ℕ, List, Some, length, map, All, MatchOption, string_bytes};
+ghost use Rattle.std.specs.Prelude.{◌≤◌, length, map, All, MatchOption};
 ghost use Rattle.std.specs.Map.{keys_of};
 ghost use Rattle.ms_tree.specs.Paths.{parts_of, long_part};
-ghost use Rattle.ms_tree.specs.Files.{text_at};
 ghost use Rattle.ms_tree.specs.Merging.{IsFirstLong};
 ghost use Rattle.ms_tree.specs.DraftFiles.{drafted};
 ghost use Rattle.ms_merge.specs.Passing.{FitsTotal, FitsNames, Fits};
@@ -11,21 +10,20 @@ ghost use Rattle.ms_merge.specs.Passing.{FitsTotal, FitsNames, Fits};
 use ms_base::Quantity;
 use ms_record::Refusal;
 use ms_tree::limits::{MOST_FILES, MOST_PART, MOST_PATH, MOST_TOTAL};
-use ms_tree::{Draft, DraftFile, FileRef, long_part};
+use ms_tree::{DraftFile, FileRef, long_part};
 
 /// The first limit that the files pass, or the names that were given.
-pub fn check(draft: &Draft, names: &[DraftFile]) -> Result<(), Refusal>
-    requires { (path text : List ℕ) → text_at draft.now path ≡ Some text → length text ≤ 67108864 }
-    ensures { Fits draft.now (keys_of (map drafted names.now)) result }
+pub fn check(rows: &[FileRef], names: &[DraftFile]) -> Result<(), Refusal>
+    requires { All (λ row. length row.text.now ≤ 67108864) rows.now }
+    ensures { Fits (map (λ r. (r.path.now, r.text.now)) rows.now) (keys_of (map drafted names.now)) result }
 {
-    let rows = draft.rows()?;
     if rows.len() as u64 > MOST_FILES {
         return Err(Refusal::Limit {
             what: Quantity::Files,
             value: MOST_FILES + 1,
         });
     }
-    check_total(&rows)?;
+    check_total(rows)?;
     check_names(names)
 }
 

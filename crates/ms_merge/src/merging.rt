@@ -1,9 +1,9 @@
 //! Merging files by single paths.
 
-ghost use Rattle.std.specs.Prelude.{◌≡◌, ℕ, List, None, map, is_some, if◌then◌else◌};
-ghost use Rattle.ms_tree.specs.Files.{text_at};
+ghost use Rattle.std.specs.Prelude.{map};
 ghost use Rattle.ms_tree.specs.Merging.{IsTag, Merges};
 ghost use Rattle.ms_tree.specs.DraftFiles.{drafted};
+ghost use Rattle.ms_merge.specs.Settling.{Removes};
 
 use crate::limits::check;
 use crate::naming::{Given, give_names};
@@ -40,14 +40,15 @@ pub fn merge(
     let moved = draft.directories()?;
     remove(&moved, &mut draft);
     give_names(alloc, &sides, tag, &moved, &mut draft, &mut given)?;
+    let rows = draft.rows()?;
     merge_laws();
-    check(&draft, &given.order)?;
-    Ok(draft.to_files()?)
+    check(&rows, &given.order)?;
+    Ok(Files::from_rows(alloc, &rows)?)
 }
 
 /// Takes the files away.
 fn remove(files: &[DraftFile], draft: &mut Draft)
-    ensures { (q : List ℕ) → text_at draft.new q ≡ (if is_some (text_at (map drafted files.now) q) then None else text_at draft.old q) }
+    ensures { Removes (map drafted files.now) draft.old draft.new }
 {
     for file in files {
         draft.remove(file.path.as_str());

@@ -1,11 +1,11 @@
 //! Base, ours and theirs, path by path.
 
-ghost use Rattle.std.specs.Prelude.{◌≡◌, ℕ, List, Some, map, is_some, bytes_eq, if◌then◌else◌, IfOk, OnOk};
+ghost use Rattle.std.specs.Prelude.{◌≡◌, ℕ, List, Some, map, bytes_eq, if◌then◌else◌, IfOk, OnOk};
 ghost use Rattle.std.specs.Option.{option_or, option_copied};
 ghost use Rattle.ms_tree.specs.Files.{text_at};
 ghost use Rattle.ms_tree.specs.Merging.{is_same, standing, is_conflict, conflicts};
 ghost use Rattle.ms_tree.specs.DraftFiles.{drafted};
-ghost use Rattle.ms_merge.specs.Settling.{settled_at};
+ghost use Rattle.ms_merge.specs.Settling.{settled_at, Settles};
 
 use ms_base::NoMemory;
 use ms_tree::{Draft, DraftFile, FileRef, Files};
@@ -84,8 +84,7 @@ pub fn settle<'a>(
     rows: &[FileRef],
     draft: &mut Draft<'a>,
 ) -> Result<(), NoMemory>
-    ensures { OnOk result ((q : List ℕ) → text_at draft.new q
-        ≡ (if is_some (text_at (map (λ r. (r.path.now, r.text.now)) rows.now) q) then option_or (settled_at sides.now.base.now sides.now.ours.now sides.now.theirs.now q) (text_at draft.old q) else text_at draft.old q)) }
+    ensures { OnOk result (Settles sides.now.base.now sides.now.ours.now sides.now.theirs.now (map (λ r. (r.path.now, r.text.now)) rows.now) draft.old draft.new) }
 {
     for row in rows {
         settle_path(sides, row.path, draft)?;
@@ -98,8 +97,9 @@ pub fn conflicts<'a>(alloc: Global, sides: &Sides<'a>) -> Result<Vec<DraftFile<'
     ensures { IfOk result (λ v. map drafted v.items ≡ conflicts sides.now.base.now sides.now.ours.now sides.now.theirs.now) }
 {
     let ours = sides.ours;
+    let rows = ours.rows()?;
     let mut found = Vec::new(alloc);
-    for row in ours.rows()? {
+    for row in &rows {
         if is_conflict(sides.base.get(row.path), Some(row.text), sides.theirs.get(row.path)) {
             let path = String::from_str(alloc, row.path)?;
             let text = row.text;

@@ -23,7 +23,7 @@ use Rattle.ms_tree.proofs.PathLaws.{directory_Decides}
 use Rattle.ms_tree.proofs.FileLaws.{none_at, lookup_by_order}
 use Rattle.ms_tree.proofs.ClashLaws.{some_at}
 use Rattle.ms_tree.proofs.KeptLaws.{all_short}
-use Rattle.ms_tree.proofs.Members.{filter_from, filter_has, map_has}
+use Rattle.ms_tree.proofs.Members.{all_from, filter_from, filter_has, map_has}
 use Rattle.ms_tree.proofs.OneTree.{rising_same}
 use Rattle.ms_tree.proofs.TaggedPaths.{IsRow, row_of_file, tagged_row, directory_of_tagged}
 use Rattle.ms_tree.proofs.MergeNames.{IsOutside, IsFresh, HasFile, HasName, has_file, has_name, one_naming}
@@ -259,8 +259,8 @@ module _ {base ours theirs : FileList} {tag : List ℕ} (may : MayMerge base our
           ]
         ]
 
-    pub merge_short : (path text : List ℕ) → text_at files path ≡ Some text → length text ≤ 67108864
-    merge_short path text h = (file_source path text h).row.text_short
+    pub merge_short : All (λ f. length f.1 ≤ 67108864) files
+    merge_short = all_from (λ f. length f.1 ≤ 67108864) files (λ f h. (file_source f.0 f.1 (at_path files f.0 f.1 m.rise h)).row.text_short)
 
     each : KeepsLimits files (names_of m) → (path text : List ℕ) → text_at files path ≡ Some text → IsFile path text
     each fits path text h =

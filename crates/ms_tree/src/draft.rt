@@ -5,12 +5,12 @@ ghost use Rattle.std.specs.Ordering.{nat_cmp};
 ghost use Rattle.std.specs.Cmp.Lexicographic.{slice_cmp};
 ghost use Rattle.std.specs.List.Sorted.{IsStrictlySortedBy};
 ghost use Rattle.std.specs.Map.{keys_of};
-ghost use Rattle.ms_tree.specs.Files.{text_at, with_file, without, IsFiles};
+ghost use Rattle.ms_tree.specs.Files.{text_at, with_file, without};
 ghost use Rattle.ms_tree.specs.Merging.{directories};
 ghost use Rattle.ms_tree.specs.DraftFiles.{drafted};
 
 use crate::entries::is_above;
-use crate::files::{FileRef, Files};
+use crate::files::FileRef;
 use ms_base::NoMemory;
 use std::alloc::Global;
 use std::collections::BTreeMap;
@@ -82,7 +82,8 @@ impl<'a> Draft<'a> {
 
     /// The files whose path is a directory of another's, in rising order.
     pub fn directories(&self) -> Result<Vec<DraftFile<'a>>, NoMemory>
-        ensures { IfOk result (λ v. map drafted v.items ≡ directories self.now) }
+        ensures found { IfOk result (λ v. map drafted v.items ≡ directories self.now) }
+        ensures rising { IsStrictlySortedBy (slice_cmp nat_cmp) (keys_of self.now) }
     {
         let mut found = Vec::new(self.alloc);
         for (path, text) in &self.map {
@@ -107,13 +108,5 @@ impl<'a> Draft<'a> {
             })?;
         }
         Ok(rows)
-    }
-
-    /// The files, with copies of their texts.
-    pub fn to_files(&self) -> Result<Files, NoMemory>
-        requires { IsFiles self.now }
-        ensures { IfOk result (λ files. files ≡ self.now) }
-    {
-        Files::from_rows(self.alloc, &self.rows()?)
     }
 }

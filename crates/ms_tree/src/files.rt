@@ -58,7 +58,7 @@ impl Files {
     }
 
     /// Files that keep all rules, with copies of their texts.
-    pub(crate) fn from_rows(alloc: Global, rows: &[FileRef]) -> Result<Files, NoMemory>
+    pub fn from_rows(alloc: Global, rows: &[FileRef]) -> Result<Files, NoMemory>
         requires { IsFiles (map (λ r. (r.path.now, r.text.now)) rows.now) }
         ensures { IfOk result (λ files. files ≡ map (λ r. (r.path.now, r.text.now)) rows.now) }
     {

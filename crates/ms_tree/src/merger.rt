@@ -1,7 +1,7 @@
 //! Merges of files, for those who are handed one.
 
-ghost use Rattle.std.specs.Prelude.{◌≡◌, ◌≤◌, ℕ, List, Some, length};
-ghost use Rattle.ms_tree.specs.Files.{FileList, text_at, IsFiles};
+ghost use Rattle.std.specs.Prelude.{◌≡◌, ◌≤◌, ℕ, List, length, All};
+ghost use Rattle.ms_tree.specs.Files.{FileList, IsFiles};
 ghost use Rattle.ms_tree.specs.Merging.{IsTag, MayMerge, IsMerge, names_of, Merges, KeepsLimits, KeepsChanges};
 
 use crate::files::Files;
@@ -33,7 +33,7 @@ pub fn merge_laws()
     ensures ours { (base ours theirs : FileList) (tag : List ℕ) (files : FileList) → MayMerge base ours theirs tag → IsMerge base ours theirs tag files → KeepsChanges base ours tag files }
     ensures theirs { (base ours theirs : FileList) (tag : List ℕ) (files : FileList) → MayMerge base ours theirs tag → IsMerge base ours theirs tag files → KeepsChanges base theirs tag files }
     ensures short { (base ours theirs : FileList) (tag : List ℕ) (files : FileList) → MayMerge base ours theirs tag → IsMerge base ours theirs tag files
-        → (path text : List ℕ) → text_at files path ≡ Some text → length text ≤ 67108864 }
+        → All (λ f. length f.1 ≤ 67108864) files }
     ensures whole { (base ours theirs : FileList) (tag : List ℕ) (files : FileList) → MayMerge base ours theirs tag → (merge : IsMerge base ours theirs tag files)
         → KeepsLimits files (names_of merge) → IsFiles files }
 {}

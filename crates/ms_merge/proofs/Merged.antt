@@ -1,0 +1,62 @@
+-- The steps of a merge together.
+use Rattle.std.proofs.Common.{◌≡◌, ℕ, Bool, true, false, if◌then◌else◌, List, [], ◌++◌, Option, Some, None, is_some, refl, sym, ◌∙◌, ap, subst}
+use Rattle.std.specs.Ordering.{nat_cmp}
+use Rattle.std.specs.Cmp.Lexicographic.{slice_cmp}
+use Rattle.std.specs.List.Sorted.{IsStrictlySortedBy}
+use Rattle.std.specs.Map.{keys_of}
+use Rattle.std.specs.Option.{option_or}
+use Rattle.std.proofs.lemmas.Bool.{false≢true}
+use Rattle.std.proofs.lemmas.List.{map-append}
+use Rattle.ms_tree.specs.Files.{FileList, text_at}
+use Rattle.ms_tree.specs.Merging.{Side, is_same, standing, conflicts, directories, AreTagged, IsMerge, names_of}
+use Rattle.ms_merge.specs.Settling.{settled_at, Settles, Removes}
+use Rattle.ms_merge.specs.Naming.{IsNamed}
+
+-- where ours and theirs have nothing, nothing stands
+or_none : (gives : Side) → option_or gives None ≡ gives
+or_none None = refl
+or_none (Some x) = refl
+
+twice : (gives : Side) → option_or gives (option_or gives None) ≡ gives
+twice None = refl
+twice (Some x) = refl
+
+both_sides : (base ours theirs : Side) → (if is_some theirs then option_or (standing base ours theirs) (if is_some ours then option_or (standing base ours theirs) None else None) else (if is_some ours then option_or (standing base ours theirs) None else None)) ≡ standing base ours theirs
+both_sides base None None = by base
+  where
+    by : (base : Side) → None ≡ standing base None None
+    by None = refl
+    by (Some x) = refl
+both_sides base (Some o) None = or_none (standing base (Some o) None)
+both_sides base None (Some t) = or_none (standing base None (Some t))
+both_sides base (Some o) (Some t) = twice (standing base (Some o) (Some t))
+
+pub settled_both : (base ours theirs start one both : FileList) → start ≡ [] → Settles base ours theirs ours start one → Settles base ours theirs theirs one both → (path : List ℕ) → text_at both path ≡ settled_at base ours theirs path
+settled_both base ours theirs start one both none s t path =
+    let first : text_at one path ≡ (if is_some (text_at ours path) then option_or (settled_at base ours theirs path) None else None) =
+    s.there path ∙ ap (λ (l : FileList). if is_some (text_at ours path) then option_or (settled_at base ours theirs path) (text_at l path) else text_at l path) none in
+    t.there path ∙ ap (λ (o : Side). if is_some (text_at theirs path) then option_or (settled_at base ours theirs path) o else o) first
+    ∙ both_sides (text_at base path) (text_at ours path) (text_at theirs path)
+
+pub merged : (base ours theirs : FileList) (tag : List ℕ) (given more both settled left files : FileList) → ((path : List ℕ) → text_at both path ≡ settled_at base ours theirs path)
+    → (doubled : IsNamed base ours theirs tag (conflicts base ours theirs) [] given both settled) → IsStrictlySortedBy (slice_cmp nat_cmp) (keys_of settled) → Removes (directories settled) settled left
+    → (moved : IsNamed base ours theirs tag (directories settled) given more left files) → IsStrictlySortedBy (slice_cmp nat_cmp) (keys_of files) → IsMerge base ours theirs tag files
+merged base ours theirs tag given more both settled left files stands doubled settled_rise removed moved rise = record {
+  doubled = doubled.named;
+  settled = settled;
+  moved = moved.named;
+  are_doubled = doubled.are;
+  settled_rise = settled_rise;
+  are_settled = λ path. doubled.there path ∙ ap (option_or (text_at doubled.named path)) (stands path);
+  are_moved = subst (λ (l : FileList). AreTagged base ours theirs tag (keys_of l) (directories settled) moved.named) doubled.is moved.are;
+  rise = rise;
+  are_files = λ path. moved.there path ∙ ap (option_or (text_at moved.named path)) (removed.there path);
+}
+
+pub merged_names : (base ours theirs : FileList) (tag : List ℕ) (given more both settled left files : FileList) (stands : (path : List ℕ) → text_at both path ≡ settled_at base ours theirs path)
+    (doubled : IsNamed base ours theirs tag (conflicts base ours theirs) [] given both settled) (settled_rise : IsStrictlySortedBy (slice_cmp nat_cmp) (keys_of settled)) (removed : Removes (directories settled) settled left)
+    (moved : IsNamed base ours theirs tag (directories settled) given more left files) (rise : IsStrictlySortedBy (slice_cmp nat_cmp) (keys_of files))
+    → names_of (merged base ours theirs tag given more both settled left files stands doubled settled_rise removed moved rise) ≡ keys_of more
+unfolding merged
+merged_names base ours theirs tag given more both settled left files stands doubled settled_rise removed moved rise =
+    sym (ap keys_of (moved.is ∙ ap (λ (l : FileList). l ++ moved.named) doubled.is) ∙ map-append (λ (f : List ℕ × List ℕ). f.0) doubled.named moved.named)
