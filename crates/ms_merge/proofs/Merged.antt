@@ -1,5 +1,5 @@
 -- The steps of a merge together.
-use Rattle.std.proofs.Common.{◌≡◌, ℕ, Bool, true, false, if◌then◌else◌, List, [], ◌++◌, Option, Some, None, is_some, refl, sym, ◌∙◌, ap, subst}
+use Rattle.std.proofs.Common.{◌≡◌, ℕ, Bool, true, false, if◌then◌else◌, List, [], ◌++◌, Option, Some, None, is_some, Err, refl, sym, ◌∙◌, ap, subst}
 use Rattle.std.specs.Ordering.{nat_cmp}
 use Rattle.std.specs.Cmp.Lexicographic.{slice_cmp}
 use Rattle.std.specs.List.Sorted.{IsStrictlySortedBy}
@@ -7,10 +7,13 @@ use Rattle.std.specs.Map.{keys_of}
 use Rattle.std.specs.Option.{option_or}
 use Rattle.std.proofs.lemmas.Bool.{false≢true}
 use Rattle.std.proofs.lemmas.List.{map-append}
-use Rattle.ms_tree.specs.Files.{FileList, text_at}
-use Rattle.ms_tree.specs.Merging.{Side, is_same, standing, conflicts, directories, AreTagged, IsMerge, names_of}
-use Rattle.ms_merge.specs.Settling.{settled_at, Settles, Removes}
+use Rattle.ms_record.specs.declared.refusal.Refusal.{Refusal}
+use Rattle.ms_record.specs.declared.refusal.Refusal.TheVariants as refusals
+use Rattle.ms_tree.specs.Files.{FileList, text_at, IsFiles}
+use Rattle.ms_tree.specs.Merging.{Side, is_same, standing, conflicts, directories, AreTagged, IsMerge, names_of, IsMerged, KeepsLimits, PassesLimit, Merges}
+use Rattle.ms_merge.specs.Settling.{settled_at, Settles, Removes, HasMerged}
 use Rattle.ms_merge.specs.Naming.{IsNamed}
+use Rattle.ms_merge.specs.Passing.{Fits}
 
 -- where ours and theirs have nothing, nothing stands
 or_none : (gives : Side) → option_or gives None ≡ gives
@@ -60,3 +63,43 @@ pub merged_names : (base ours theirs : FileList) (tag : List ℕ) (given more bo
 unfolding merged
 merged_names base ours theirs tag given more both settled left files stands doubled settled_rise removed moved rise =
     sym (ap keys_of (moved.is ∙ ap (λ (l : FileList). l ++ moved.named) doubled.is) ∙ map-append (λ (f : List ℕ × List ℕ). f.0) doubled.named moved.named)
+
+pub settled_rows : (base ours theirs one_rows other_rows start one both : FileList) → start ≡ [] → one_rows ≡ ours → other_rows ≡ theirs → Settles base ours theirs one_rows start one → Settles base ours theirs other_rows one both
+    → (path : List ℕ) → text_at both path ≡ settled_at base ours theirs path
+settled_rows base ours theirs one_rows other_rows start one both none e f s t =
+    settled_both base ours theirs start one both none (subst (λ (l : FileList). Settles base ours theirs l start one) e s) (subst (λ (l : FileList). Settles base ours theirs l one both) f t)
+
+pub has_merged : (base ours theirs : FileList) (tag : List ℕ) (doubled removed moved before given more both settled left files : FileList) → ((path : List ℕ) → text_at both path ≡ settled_at base ours theirs path)
+    → doubled ≡ conflicts base ours theirs → before ≡ [] → IsNamed base ours theirs tag doubled before given both settled → IsStrictlySortedBy (slice_cmp nat_cmp) (keys_of settled)
+    → removed ≡ directories settled → Removes removed settled left → moved ≡ directories settled → IsNamed base ours theirs tag moved given more left files → IsStrictlySortedBy (slice_cmp nat_cmp) (keys_of files)
+    → HasMerged base ours theirs tag files more
+has_merged base ours theirs tag doubled removed moved before given more both settled left files stands d none named settled_rise r gone m last rise =
+    let first : IsNamed base ours theirs tag (conflicts base ours theirs) [] given both settled =
+    subst (λ (l : FileList). IsNamed base ours theirs tag (conflicts base ours theirs) l given both settled) none (subst (λ (l : FileList). IsNamed base ours theirs tag l before given both settled) d named) in
+    let gone' : Removes (directories settled) settled left = subst (λ (l : FileList). Removes l settled left) r gone in
+    let last' : IsNamed base ours theirs tag (directories settled) given more left files = subst (λ (l : FileList). IsNamed base ours theirs tag l given more left files) m last in
+    record {
+      merge = merged base ours theirs tag given more both settled left files stands first settled_rise gone' last' rise;
+      names_are = merged_names base ours theirs tag given more both settled left files stands first settled_rise gone' last' rise;
+    }
+
+-- the same files and names
+pub same_merged : (base ours theirs : FileList) (tag : List ℕ) (files names others other_names : FileList) → HasMerged base ours theirs tag others other_names → files ≡ others → names ≡ other_names → HasMerged base ours theirs tag files names
+same_merged base ours theirs tag files names others other_names h e f =
+    subst (λ (l : FileList). HasMerged base ours theirs tag l names) (sym e) (subst (λ (l : FileList). HasMerged base ours theirs tag others l) (sym f) h)
+
+-- ---- what is answered
+
+-- what was judged is kept by the merge
+pub judged_fit : (base ours theirs : FileList) (tag : List ℕ) (files names rows named : FileList) (h : HasMerged base ours theirs tag files names) → rows ≡ files → named ≡ names → KeepsLimits rows (keys_of named) → KeepsLimits files (names_of h.merge)
+judged_fit base ours theirs tag files names rows named h e f fits =
+    subst (λ (l : List (List ℕ)). KeepsLimits files l) (ap keys_of f ∙ sym h.names_are) (subst (λ (l : FileList). KeepsLimits l (keys_of named)) e fits)
+
+pub refused : (base ours theirs : FileList) (tag : List ℕ) (files names rows named : FileList) → HasMerged base ours theirs tag files names → rows ≡ files → named ≡ names → (e : Refusal) → Fits rows (keys_of named) (Err e) → Merges base ours theirs tag (Err e)
+refused base ours theirs tag files names rows named h e f (refusals.Limit what value) passed =
+    (files, h.merge, subst (λ (l : List (List ℕ)). PassesLimit files l what value) (ap keys_of f ∙ sym h.names_are) (subst (λ (l : FileList). PassesLimit l (keys_of named) what value) e passed))
+refused base ours theirs tag files names rows named h e f refusals.NoMemory passed = tt
+refused base ours theirs tag files names rows named h e f other passed = absurd passed
+
+pub answered : (base ours theirs : FileList) (tag : List ℕ) (files names answer : FileList) → HasMerged base ours theirs tag files names → IsFiles files → answer ≡ files → IsMerged base ours theirs tag answer
+answered base ours theirs tag files names answer h whole e = subst (λ (l : FileList). IsMerged base ours theirs tag l) (sym e) (record { merge = h.merge; whole = whole })

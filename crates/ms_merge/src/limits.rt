@@ -69,7 +69,7 @@ fn long_name(names: &[DraftFile]) -> Option<u64>
     ensures { MatchOption result (All (λ name. length name ≤ 1024) (keys_of (map drafted names.now))) (IsFirstLong length 1024 (keys_of (map drafted names.now))) }
 {
     for name in names {
-        let bytes = name.path.len() as u64;
+        let bytes = name.path.as_str().len() as u64;
         if bytes > MOST_PATH {
             return Some(bytes);
         }

@@ -61,11 +61,7 @@ fn is_conflict(base: Option<&[u8]>, ours: Option<&[u8]>, theirs: Option<&[u8]>) 
 }
 
 /// Puts what the path gives, if anything.
-fn settle_path<'a>(
-    sides: &Sides<'a>,
-    path: &str,
-    draft: &mut Draft<'a>,
-) -> Result<(), NoMemory>
+fn settle_path<'a>(sides: &Sides<'a>, path: &str, draft: &mut Draft<'a>) -> Result<(), NoMemory>
     ensures { OnOk result ((q : List ℕ) → text_at draft.new q
         ≡ (if bytes_eq q path.now then option_or (settled_at sides.now.base.now sides.now.ours.now sides.now.theirs.now q) (text_at draft.old q) else text_at draft.old q)) }
 {
@@ -100,7 +96,11 @@ pub fn conflicts<'a>(alloc: Global, sides: &Sides<'a>) -> Result<Vec<DraftFile<'
     let rows = ours.rows()?;
     let mut found = Vec::new(alloc);
     for row in &rows {
-        if is_conflict(sides.base.get(row.path), Some(row.text), sides.theirs.get(row.path)) {
+        if is_conflict(
+            sides.base.get(row.path),
+            Some(row.text),
+            sides.theirs.get(row.path),
+        ) {
             let path = String::from_str(alloc, row.path)?;
             let text = row.text;
             found.push(DraftFile { path, text })?;

@@ -27,21 +27,45 @@ fn gives(
     let base = files_of(alloc, base)?;
     let ours = files_of(alloc, ours)?;
     let theirs = files_of(alloc, theirs)?;
-    let merged = merge(alloc, &base, &ours, &theirs, "ann").ok().ok_or("merged")?;
+    let merged = merge(alloc, &base, &ours, &theirs, "ann")
+        .ok()
+        .ok_or("merged")?;
     let rows = merged.rows()?;
-    let shown = rows
-        .iter()
-        .zip(wanted)
-        .all(|(row, file)| row.path == file.0 && row.text == file.1.as_bytes());
+    let shown = rows.iter().zip(wanted).all(|(row, file)| row.path == file.0
+        && row.text == file.1.as_bytes());
     Ok(rows.len() == wanted.len() && shown)
 }
 
 #[test]
 fn merge_by_single_paths(rt: HostRuntime) -> Result<(), Fail> {
     let alloc = rt.alloc();
-    assert!(rt; gives(alloc, &[("x", "1")], &[("x", "2")], &[("x", "3")], &[("x", "3"), ("x.ann", "2")])?);
-    assert!(rt; gives(alloc, &[("x", "1")], &[("x", "2")], &[("x", "3"), ("x.ann", "9")], &[("x", "3"), ("x.ann", "9"), ("x.ann.2", "2")])?);
+    assert!(rt;
+        gives(
+            alloc,
+            &[("x", "1")],
+            &[("x", "2")],
+            &[("x", "3")],
+            &[("x", "3"), ("x.ann", "2")]
+        )?
+    );
+    assert!(rt;
+        gives(
+            alloc,
+            &[("x", "1")],
+            &[("x", "2")],
+            &[("x", "3"), ("x.ann", "9")],
+            &[("x", "3"), ("x.ann", "9"), ("x.ann.2", "2")]
+        )?
+    );
     assert!(rt; gives(alloc, &[("x", "1")], &[], &[("x", "3")], &[("x", "3")])?);
-    assert!(rt; gives(alloc, &[], &[("a/b", "1")], &[("a", "2")], &[("a.ann", "2"), ("a/b", "1")])?);
+    assert!(rt;
+        gives(
+            alloc,
+            &[],
+            &[("a/b", "1")],
+            &[("a", "2")],
+            &[("a.ann", "2"), ("a/b", "1")]
+        )?
+    );
     Ok(())
 }

@@ -266,12 +266,12 @@ module _ {base ours theirs : FileList} {tag : List ℕ} (may : MayMerge base our
     each fits path text h =
         elim (path_cases path text h) [
           | inl named ↦ (let row = (file_source path text h).row in record {
-                path_is = row.path_is;
-                path_short = All-contains (λ name. length name ≤ 1024) (names_of m) path fits.short named;
-                parts_short = all_short (parts_of path) (All-contains (λ name. long_part (parts_of name) ≤ 200) (names_of m) path fits.parts_short named);
-                levels = row.levels;
-                text_short = row.text_short;
-              })
+            path_is = row.path_is;
+            path_short = All-contains (λ name. length name ≤ 1024) (names_of m) path fits.short named;
+            parts_short = all_short (parts_of path) (All-contains (λ name. long_part (parts_of name) ≤ 200) (names_of m) path fits.parts_short named);
+            levels = row.levels;
+            text_short = row.text_short;
+          })
           | inr plain ↦ plain
         ]
 
@@ -365,6 +365,6 @@ one_merge base ours theirs tag files others a b =
     (subst (λ (l : FileList). AreTagged base ours theirs tag (keys_of l) (directories a.settled) b.moved) (sym doubled) (subst (λ (l : FileList). AreTagged base ours theirs tag (keys_of b.doubled) (directories l) b.moved) (sym settled) b.are_moved)) in
     same_texts files others a.rise b.rise
     (λ path. a.are_files path
-        ∙ ap (λ (l : FileList). option_or (text_at l path) (if is_some (text_at (directories a.settled) path) then None else text_at a.settled path)) moved
-        ∙ ap (λ (l : FileList). option_or (text_at b.moved path) (if is_some (text_at (directories l) path) then None else text_at l path)) settled
-        ∙ sym (b.are_files path))
+    ∙ ap (λ (l : FileList). option_or (text_at l path) (if is_some (text_at (directories a.settled) path) then None else text_at a.settled path)) moved
+    ∙ ap (λ (l : FileList). option_or (text_at b.moved path) (if is_some (text_at (directories l) path) then None else text_at l path)) settled
+    ∙ sym (b.are_files path))

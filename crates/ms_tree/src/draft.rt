@@ -80,10 +80,16 @@ impl<'a> Draft<'a> {
         self.map.contains_key(path)
     }
 
+    /// What is true of all drafts: their paths rise.
+    pub fn shows(&self)
+        ensures { IsStrictlySortedBy (slice_cmp nat_cmp) (keys_of self.now) }
+    {
+        let _ = &self.map;
+    }
+
     /// The files whose path is a directory of another's, in rising order.
     pub fn directories(&self) -> Result<Vec<DraftFile<'a>>, NoMemory>
-        ensures found { IfOk result (λ v. map drafted v.items ≡ directories self.now) }
-        ensures rising { IsStrictlySortedBy (slice_cmp nat_cmp) (keys_of self.now) }
+        ensures { IfOk result (λ v. map drafted v.items ≡ directories self.now) }
     {
         let mut found = Vec::new(self.alloc);
         for (path, text) in &self.map {

@@ -9,11 +9,7 @@ use std::alloc::Global;
 use std::collections::BTreeMap;
 
 /// Whether the path is a directory of a key. In rising order the keys below it stand together.
-pub fn is_above<V>(
-    alloc: Global,
-    map: &BTreeMap<String, V>,
-    path: &str,
-) -> Result<bool, NoMemory>
+pub fn is_above<V>(alloc: Global, map: &BTreeMap<String, V>, path: &str) -> Result<bool, NoMemory>
     ensures { IfOk result (λ b. b ≡ list_any (λ e. is_directory_of path.now (string_bytes e.0)) map.now.entries) }
 {
     let mut front = String::from_str(alloc, path)?;

@@ -121,7 +121,7 @@ impl Files {
     }
 
     /// What is true of all files: their rules are kept.
-    pub(crate) fn shows(&self)
+    pub fn shows(&self)
         ensures { IsFiles self.now }
     {
         let _ = &self.map;

@@ -1,8 +1,8 @@
 //! Trees of files by their paths, and their texts.
 #![tactic(auto)]
 
-mod entries;
 pub mod draft;
+mod entries;
 pub mod files;
 pub mod gathering;
 pub mod limits;

@@ -23,13 +23,12 @@ loop-file-preserved c =
     let text : List ℕ = c.file-item.result.text.now in
     let pushed : map drafted c.push.new.self.items ≡ map drafted before ++ (name, text) ∷ [] = ap (map drafted) c.in_ok-push.ensures.items ∙ map-append drafted before _ in
     let is : IsTagged c.args.sides.now.base.now c.args.sides.now.ours.now c.args.sides.now.theirs.now c.args.tag.now (keys_of (map drafted before)) (string_bytes c.file-item.result.path) name =
-    subst (λ (p : List ℕ). IsTagged c.args.sides.now.base.now c.args.sides.now.ours.now c.args.sides.now.theirs.now c.args.tag.now (keys_of (map drafted before)) p name) c.as_str.ensures.value c.in_ok-path.ensures in
-    (
+    subst (λ (p : List ℕ). IsTagged c.args.sides.now.base.now c.args.sides.now.ours.now c.args.sides.now.theirs.now c.args.tag.now (keys_of (map drafted before)) p name) c.as_str.ensures.value c.in_ok-path.ensures in (
       given_more c.loop-file.given.by_name (map drafted before) c.put-in-loop-file.new.self (map drafted c.push.new.self.items) name text c.loop-file.invariant.0
-      (λ path. c.in_ok-put-2.ensures.there path ∙ ap (λ (n : List ℕ). if bytes_eq path n then Some text else text_at c.loop-file.given.by_name path) c.as_str-in-loop-file-2.ensures.value) pushed,
+          (λ path. c.in_ok-put-2.ensures.there path ∙ ap (λ (n : List ℕ). if bytes_eq path n then Some text else text_at c.loop-file.given.by_name path) c.as_str-in-loop-file-2.ensures.value) pushed,
       named_more c.args.sides.now.base.now c.args.sides.now.ours.now c.args.sides.now.theirs.now c.args.tag.now _ _ _ _ _ _ _ _ (drafted c.file-item.result) name c.loop-file.invariant.1 is
-      (λ path. c.in_ok-put.ensures.there path ∙ ap (λ (n : List ℕ). if bytes_eq path n then Some text else text_at c.loop-file.draft path) c.as_str-in-loop-file.ensures.value)
-      (shown_item drafted c.args.files.now c.loop-file.file-index c.file-item.result c.loop-file-test.true c.file-item.is) pushed,
+          (λ path. c.in_ok-put.ensures.there path ∙ ap (λ (n : List ℕ). if bytes_eq path n then Some text else text_at c.loop-file.draft path) c.as_str-in-loop-file.ensures.value)
+          (shown_item drafted c.args.files.now c.loop-file.file-index c.file-item.result c.loop-file-test.true c.file-item.is) pushed,
     )
 
 pub returns-clause-given : goal.returns-clause-given

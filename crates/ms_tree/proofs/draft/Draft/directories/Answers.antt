@@ -20,5 +20,5 @@ loop-path-preserved c =
     let here = answered c.self.inside.map.entries c.args.self.now (text_of c.in-Some.path.now) c.as_str.result.now c.in_ok-is_above.field-0 c.self.view_is c.as_str.ensures.value c.in_ok-is_above.ensures ∙ c.if-branch.false in
     found_other c.args.self.now c.loop-path.found.items c.loop-path.path-iterator c.next.new.self c.in-Some.path.now c.in-Some.text.now c.loop-path.invariant step here
 
-pub returns-clause-found : goal.returns-clause-found
-returns-clause-found c = found_all c.args.self.now c.loop-path.found.items c.loop-path.path-iterator c.loop-path.invariant (search rules)
+pub returns : goal.returns
+returns c = found_all c.args.self.now c.loop-path.found.items c.loop-path.path-iterator c.loop-path.invariant (search rules)
