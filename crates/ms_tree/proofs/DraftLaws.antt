@@ -1,19 +1,18 @@
 -- The map of a draft.
-use Rattle.std.proofs.Common.{◌≡◌, ℕ, Bool, cond, true, false, List, [], ◌∷◌, ◌++◌, map, filter, Option, Some, None, is_some, Bor, String, Global, string_cmp, refl, sym, ◌∙◌, ap, subst, append_assoc, append-nil}
+use Rattle.std.proofs.Common.{◌≡◌, ℕ, Bool, cond, true, false, List, [], ◌∷◌, ◌++◌, map, filter, Option, Some, None, is_some, Bor, String, Global, string_cmp, refl, sym, ◌∙◌, ap, append_assoc, append-nil}
 use Rattle.std.specs.Ordering.{nat_cmp, is_eq}
 use Rattle.std.specs.Cmp.Lexicographic.{slice_cmp}
 use Rattle.std.specs.List.{list_any}
 use Rattle.std.specs.List.Sorted.{IsStrictlySortedBy}
-use Rattle.std.specs.Map.{keys_of, lookup, remove_entry}
-use Rattle.std.specs.BTreeMap.{insert_entry}
+use Rattle.std.specs.Map.{keys_of, lookup}
 use Rattle.std.specs.Option.{option_map}
 use Rattle.std.proofs.lemmas.List.{map-append}
 use Rattle.ms_tree.specs.declared.draft.Draft.TheInside.{Inside}
 use Rattle.ms_tree.specs.declared.draft.DraftFile.{DraftFile}
 use Rattle.ms_tree.specs.DraftFiles.{drafted}
 use Rattle.ms_tree.specs.Merging.{directories}
-use Rattle.ms_tree.specs.DraftInside.{view_of, IsRising}
-use Rattle.ms_tree.specs.Files.{FileList, text_at, with_file, without}
+use Rattle.ms_tree.specs.DraftInside.{IsRising}
+use Rattle.ms_tree.specs.Files.{FileList, text_at}
 use Rattle.ms_tree.specs.Paths.{is_directory_of}
 use Rattle.ms_tree.proofs.MapViews.{rising_by_bytes}
 use Rattle.ms_tree.proofs.EntryLaws.{text_of, entry_found, files_of, any_shown}

@@ -1,32 +1,36 @@
 -- What is true of every merge: where each file comes from, and where each change stands.
-use Rattle.std.proofs.Common.{◌≡◌, ◌≢◌, ℕ, ◌≤◌, Bool, true, false, cond, not, ◌||◌, ◌&&◌, List, [], ◌∷◌, ◌++◌, length, filter, map, All, Contains, Option, Some, None, IsSome, is_some, if◌then◌else◌, refl, sym, ◌∙◌, ap, subst, inl, inr, ◌⊎◌}
-use Rattle.std.specs.Ordering.{nat_cmp, eq_by_cmp}
+use Rattle.std.proofs.Common.{◌≡◌, ◌≢◌, ℕ, ◌+◌, ◌≤◌, Bool, true, false, cond, not, ◌&&◌, List, [], ◌∷◌, ◌++◌, length, find, nat_lt, take, drop, sum_by, take-append-drop, All, Contains, Some, None, IsSome, is_some, if◌then◌else◌, refl, sym, ◌∙◌, ap, subst, inl, inr, ◌⊎◌, arith}
+use Rattle.std.specs.Ordering.{nat_cmp}
 use Rattle.std.specs.Cmp.Lexicographic.{slice_cmp, nat_list_cmp_total}
 use Rattle.std.specs.Cmp.{eq_by_cmp_equiv}
 use Rattle.std.specs.Option.{option_or}
 use Rattle.std.specs.List.{list_any}
 use Rattle.std.specs.List.Sorted.{IsStrictlySortedBy}
-use Rattle.std.specs.Map.{keys_of, lookup}
+use Rattle.std.specs.Map.{keys_of, values_of}
 use Rattle.std.specs.Str.{bytes_eq}
-use Rattle.std.proofs.lemmas.Bool.{false≢true, false_from_ne_true}
+use Rattle.std.proofs.lemmas.Bool.{false≢true, false_from_ne_true, le-ltb}
 use Rattle.std.proofs.lemmas.Cmp.{nat_list_eq_equiv}
-use Rattle.std.proofs.lemmas.List.Elements.{All-contains, Contains-append_left, Contains-append_right}
+use Rattle.std.proofs.lemmas.List.Elements.{All-contains, All-head, All-tail, Contains-append_left, Contains-append_right, Contains-append_cases}
+use Rattle.std.proofs.lemmas.List.{map-append}
+use Rattle.std.proofs.lemmas.List.Sums.{sum_by-append}
 use Rattle.std.proofs.lemmas.Map.Entries.{lookup-filter-keys}
 use Rattle.std.proofs.lemmas.Map.Keys.{IsDistinct-from_sorted}
 use Rattle.std.proofs.lemmas.Map.Made.{is_some-lookup}
 use Rattle.std.proofs.lemmas.Map.Views.{Contains-from_lookup, lookup-from_Contains, list_any-from_Contains}
 use Rattle.std.proofs.lemmas.Slice.Eq.{bytes_eq-Decides}
+use Rattle.ms_base.specs.declared.names.Quantity.{Quantity}
+use Rattle.ms_base.specs.declared.names.Quantity.TheVariants as quantities
 use Rattle.ms_tree.specs.Paths.{parts_of, long_part, is_directory_of, IsDirectoryOf}
-use Rattle.ms_tree.specs.Files.{FileList, text_at, IsFile, IsFiles}
-use Rattle.ms_tree.specs.Merging.{Side, is_same, standing, is_conflict, tagged, conflicts, directories, AreTagged, IsTag, MayMerge, IsMerge, names_of, KeepsLimits, KeepsChanges}
+use Rattle.ms_tree.specs.Files.{FileList, text_at, total_of, IsFile, IsFiles}
+use Rattle.ms_tree.specs.Merging.{Side, is_same, standing, is_conflict, tagged, conflicts, directories, AreTagged, MayMerge, IsMerge, names_of, IsFirstLong, KeepsLimits, PassesLimit, KeepsChanges}
 use Rattle.ms_tree.proofs.PathLaws.{directory_Decides}
 use Rattle.ms_tree.proofs.FileLaws.{none_at, lookup_by_order}
 use Rattle.ms_tree.proofs.ClashLaws.{some_at}
 use Rattle.ms_tree.proofs.KeptLaws.{all_short}
-use Rattle.ms_tree.proofs.Members.{all_from, filter_from, filter_has, map_has}
+use Rattle.ms_tree.proofs.Members.{in_here, in_later, all_from, filter_from, filter_has, map_has}
 use Rattle.ms_tree.proofs.OneTree.{rising_same}
 use Rattle.ms_tree.proofs.TaggedPaths.{IsRow, row_of_file, tagged_row, directory_of_tagged}
-use Rattle.ms_tree.proofs.MergeNames.{IsOutside, IsFresh, HasFile, HasName, has_file, has_name, one_naming}
+use Rattle.ms_tree.proofs.MergeNames.{IsFresh, HasFile, has_file, has_name, one_naming}
 
 -- ---- sides
 
@@ -129,6 +133,31 @@ at_directory : (files : FileList) (path : List ℕ) (b : Bool) → is_above file
 unfolding is_above
 at_directory files path b e =
     lookup-filter-keys (bytes_eq path) (λ q. list_any (λ g. is_directory_of q g.0) files) b (λ k same. ap (λ (q : List ℕ). list_any (λ g. is_directory_of q g.0) files) (sym (exact path k same)) ∙ e) files
+
+-- what was found is there and passes
+find_from : (p : List ℕ → Bool) (names : List (List ℕ)) (name : List ℕ) → find p names ≡ Some name → Contains names name × (p name ≡ true)
+find_from p [] name h = absurd cc
+find_from p (n ∷ names) name h = by (p n) refl h (find_from p names name)
+  where
+    by : (b : Bool) → p n ≡ b → cond b (Some n) (find p names) ≡ Some name → (find p names ≡ Some name → Contains names name × (p name ≡ true)) → Contains (n ∷ names) name × (p name ≡ true)
+    by true e h later = let same : n ≡ name = cc in (subst (λ (x : List ℕ). Contains (n ∷ names) x) same (in_here n names), ap p (sym same) ∙ e)
+    by false e h later = let r = later h in (in_later n names name r.0, r.1)
+
+short_parts : (parts : List (List ℕ)) → All (λ part. length part ≤ 200) parts → long_part parts ≤ 200
+short_parts [] h = omega arith
+short_parts (part ∷ parts) h =
+    let here : length part ≤ 200 = All-head (λ part. length part ≤ 200) part parts h in
+    let off : nat_lt 200 (length part) ≡ false = le-ltb _ _ here in
+    let rest : long_part parts ≤ 200 = short_parts parts (All-tail (λ part. length part ≤ 200) part parts h) in
+    rw off rest
+
+-- the first files have no more bytes than all
+front_total : (place : ℕ) (files : FileList) → total_of (take place files) ≤ total_of files
+front_total place files =
+    let whole : total_of (take place files ++ drop place files) ≡ total_of files = ap total_of (take-append-drop place files) in
+    let values = ap (sum_by length) (map-append (λ (f : List ℕ × List ℕ). f.1) (take place files) (drop place files)) in
+    let split = sum_by-append length (values_of (take place files)) (values_of (drop place files)) in
+    omega (arith, whole, values, split)
 
 -- ---- where the files of a merge come from
 
@@ -328,22 +357,24 @@ module _ {base ours theirs : FileList} {tag : List ℕ} (may : MayMerge base our
     given_is : (name : List ℕ) (given : List (List ℕ)) → Contains given name → list_any (bytes_eq name) given ≡ true
     given_is name given h = list_any-from_Contains nat_list_eq_equiv name given h
 
-    -- ours at its tagged name stays there
+    no_directory : (name : List ℕ) → IsFresh base ours theirs [] name → is_above m.settled name ≡ false
+    no_directory name f = false_from_ne_true (is_above m.settled name) (λ e. let q = some_above name e in let t = some_text (text_at m.settled q.0) q.1 in not_over [] name q.0 t.0 f (settled_source q.0 t.0 t.1) q.2)
+
+    not_again : (name : List ℕ) → Contains (keys_of m.doubled) name → text_at m.moved name ≡ None
+    not_again name given = by (text_at m.moved name) refl
+      where
+        by : (o : Side) → text_at m.moved name ≡ o → o ≡ None
+        by None e = refl
+        by (Some t) e = absurd (false≢true (sym (moved_file name t e).is_fresh.not_given ∙ given_is name (keys_of m.doubled) given))
+
+    -- a name that ours was given stays
+    name_stays : (name text : List ℕ) → text_at m.doubled name ≡ Some text → IsFresh base ours theirs [] name → text_at files name ≡ Some text
+    name_stays name text here f = stays name text (m.are_settled name ∙ rw here refl) (no_directory name f) (not_again name (key_in m.doubled name text here))
+
     doubled_stays : (path text : List ℕ) → Contains (conflicts base ours theirs) (path, text) → (k : ℕ) × (text_at files (tagged tag path k) ≡ Some text)
     doubled_stays path text there =
         let n = has_name base ours theirs tag (conflicts base ours theirs) m.doubled [] m.are_doubled path text there in
-        let here : text_at m.settled n.name ≡ Some text = m.are_settled n.name ∙ rw n.stands refl in
-        (n.number, subst (λ (q : List ℕ). text_at files q ≡ Some text) n.spelled (stays n.name text here (no_directory n.name n.is_fresh) (not_again n.name (key_in m.doubled n.name text n.stands))))
-      where
-        no_directory : (name : List ℕ) → IsFresh base ours theirs [] name → is_above m.settled name ≡ false
-        no_directory name f = false_from_ne_true (is_above m.settled name) (λ e. let q = some_above name e in let t = some_text (text_at m.settled q.0) q.1 in not_over [] name q.0 t.0 f (settled_source q.0 t.0 t.1) q.2)
-
-        not_again : (name : List ℕ) → Contains (keys_of m.doubled) name → text_at m.moved name ≡ None
-        not_again name given = by (text_at m.moved name) refl
-          where
-            by : (o : Side) → text_at m.moved name ≡ o → o ≡ None
-            by None e = refl
-            by (Some t) e = absurd (false≢true (sym (moved_file name t e).is_fresh.not_given ∙ given_is name (keys_of m.doubled) given))
+        (n.number, subst (λ (q : List ℕ). text_at files q ≡ Some text) n.spelled (name_stays n.name text n.stands n.is_fresh))
 
     pub keeps_ours : KeepsChanges base ours tag files
     keeps_ours path text here change =
@@ -352,6 +383,34 @@ module _ {base ours theirs : FileList} {tag : List ℕ} (may : MayMerge base our
           | inl stands ↦ stands_on path text (settles path text none.0 (rw here stands)) none.1
           | inr conflict ↦ inr (doubled_stays path text (filter_has (λ (g : List ℕ × List ℕ). is_conflict (text_at base g.0) (Some g.1) (text_at theirs g.0)) ours (path, text) (in_list ours path text here) conflict))
         ]
+
+    -- ---- a merge that keeps all rules passes no limit
+
+    text_of_key : (list : FileList) (name : List ℕ) → Contains (keys_of list) name → (text : List ℕ) × (text_at list name ≡ Some text)
+    text_of_key list name h = some_text (text_at list name) (is_some-lookup (bytes_eq name) list ∙ given_is name (keys_of list) h)
+
+    name_stands : (name : List ℕ) → Contains (names_of m) name → (text : List ℕ) × (text_at files name ≡ Some text)
+    name_stands name h =
+        elim (Contains-append_cases (keys_of m.doubled) (keys_of m.moved) name h) [
+          | inl first ↦ (let t = text_of_key m.doubled name first in
+              (t.0, name_stays name t.0 t.1 (has_file base ours theirs tag (conflicts base ours theirs) m.doubled [] m.are_doubled name t.0 t.1).is_fresh))
+          | inr later ↦ (let t = text_of_key m.moved name later in (t.0, m.are_files name ∙ (let here : text_at m.moved name ≡ Some t.0 = t.1 in rw here refl)))
+        ]
+
+    -- no name is too long
+    no_long : (measure : List ℕ → ℕ) (most : ℕ) (value : ℕ) → IsFiles files → ((path text : List ℕ) → IsFile path text → measure path ≤ most) → IsFirstLong measure most (names_of m) value → ⊥
+    no_long measure most value whole short long =
+        let f = find_from (λ name. nat_lt most (measure name)) (names_of m) long.0 long.1 in
+        let t = name_stands long.0 f.0 in
+        let fits : measure long.0 ≤ most = short long.0 t.0 (whole.each long.0 t.0 t.1) in
+        false≢true (sym (le-ltb _ _ fits) ∙ f.1)
+
+    pub merge_exact : IsFiles files → (what : Quantity) (value : ℕ) → PassesLimit files (names_of m) what value → ⊥
+    merge_exact whole quantities.Files value passed = omega (arith, passed.0, whole.count)
+    merge_exact whole quantities.Total value passed = omega (arith, passed.1.is, passed.1.past, whole.total, front_total (passed.1.place + 1) files)
+    merge_exact whole quantities.Path value passed = no_long length 1024 value whole (λ path text f. f.path_short) passed.2
+    merge_exact whole quantities.Part value passed = no_long (λ name. long_part (parts_of name)) 200 value whole (λ path text f. short_parts (parts_of path) f.parts_short) passed.3
+    merge_exact whole other value passed = passed
 
 -- ---- there is one merge
 

@@ -1,7 +1,6 @@
 -- Names that a merge gives: each has its file, and each file has its name.
-use Rattle.std.proofs.Common.{◌≡◌, ℕ, ◌+◌, ◌<◌, Bool, true, false, cond, not, ◌||◌, List, [], ◌∷◌, ◌++◌, Contains, Option, Some, None, IsSome, is_some, refl, sym, ◌∙◌, ap, subst, inl, inr, ◌⊎◌, arith}
+use Rattle.std.proofs.Common.{◌≡◌, ℕ, ◌<◌, Bool, true, false, cond, not, ◌||◌, List, [], ◌∷◌, ◌++◌, Contains, Option, Some, None, IsSome, is_some, refl, sym, ◌∙◌, ap, subst, inl, inr, arith}
 use Rattle.std.specs.List.{list_any}
-use Rattle.std.specs.Map.{keys_of}
 use Rattle.std.specs.Str.{bytes_eq}
 use Rattle.std.proofs.lemmas.Bool.{false≢true, cases_lt}
 use Rattle.std.proofs.lemmas.List.Folds.{list_any-append}
@@ -11,7 +10,6 @@ use Rattle.ms_tree.specs.Files.{FileList, text_at}
 use Rattle.ms_tree.specs.Merging.{tagged, is_taken, is_free, IsTagged, AreTagged}
 use Rattle.ms_tree.proofs.PathLaws.{directory_Decides}
 use Rattle.ms_tree.proofs.FileLaws.{none_at}
-use Rattle.ms_tree.proofs.ClashLaws.{some_at}
 use Rattle.ms_tree.proofs.Members.{in_here, in_later, in_cases, in_none}
 
 -- ---- a name that is free

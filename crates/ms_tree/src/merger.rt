@@ -2,7 +2,8 @@
 
 ghost use Rattle.std.specs.Prelude.{◌≡◌, ◌≤◌, ℕ, List, length, All};
 ghost use Rattle.ms_tree.specs.Files.{FileList, IsFiles};
-ghost use Rattle.ms_tree.specs.Merging.{IsTag, MayMerge, IsMerge, names_of, Merges, KeepsLimits, KeepsChanges};
+ghost use Rattle.ms_tree.specs.Merging.{IsTag, MayMerge, IsMerge, names_of, Merges, KeepsLimits, PassesLimit, KeepsChanges};
+ghost use Rattle.ms_base.specs.declared.names.Quantity.{Quantity};
 
 use crate::files::Files;
 use ms_record::Refusal;
@@ -27,7 +28,7 @@ pub trait Merger {
 }
 
 /// What is true of every merge: it is the only one, it loses no change of ours or of theirs, and it
-/// keeps all rules of files but the limits that `Merger::merge` names.
+/// keeps all rules of files exactly where it passes none of the limits that `Merger::merge` names.
 pub fn merge_laws()
     ensures one { (base ours theirs : FileList) (tag : List ℕ) (files others : FileList) → IsMerge base ours theirs tag files → IsMerge base ours theirs tag others → files ≡ others }
     ensures ours { (base ours theirs : FileList) (tag : List ℕ) (files : FileList) → MayMerge base ours theirs tag → IsMerge base ours theirs tag files → KeepsChanges base ours tag files }
@@ -36,4 +37,6 @@ pub fn merge_laws()
         → All (λ f. length f.1 ≤ 67108864) files }
     ensures whole { (base ours theirs : FileList) (tag : List ℕ) (files : FileList) → MayMerge base ours theirs tag → (merge : IsMerge base ours theirs tag files)
         → KeepsLimits files (names_of merge) → IsFiles files }
+    ensures exact { (base ours theirs : FileList) (tag : List ℕ) (files : FileList) (what : Quantity) (value : ℕ) → MayMerge base ours theirs tag → (merge : IsMerge base ours theirs tag files)
+        → PassesLimit files (names_of merge) what value → ¬ IsFiles files }
 {}

@@ -1,4 +1,4 @@
-use Rattle.ms_tree.proofs.MergeLaws.{one_merge, keeps_ours, keeps_theirs, merge_short, merge_whole}
+use Rattle.ms_tree.proofs.MergeLaws.{one_merge, keeps_ours, keeps_theirs, merge_short, merge_whole, merge_exact}
 use Rattle.ms_tree.proofs.merger.merge_laws.Goals as goal
 
 pub returns-clause-one : goal.returns-clause-one
@@ -15,3 +15,6 @@ returns-clause-short c = λ base ours theirs tag files may merge. merge_short ma
 
 pub returns-clause-whole : goal.returns-clause-whole
 returns-clause-whole c = λ base ours theirs tag files may merge. merge_whole may merge
+
+pub returns-clause-exact : goal.returns-clause-exact
+returns-clause-exact c = λ base ours theirs tag files what value may merge passed whole. merge_exact may merge whole what value passed

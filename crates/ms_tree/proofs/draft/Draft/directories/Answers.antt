@@ -1,5 +1,4 @@
-use Rattle.std.proofs.Common.{◌≡◌, List, String, Global, Bor, ℕ, [], ◌∷◌, true, false, rules, ap, ◌∙◌, refl, sym}
-use Rattle.ms_tree.specs.DraftFiles.{drafted}
+use Rattle.std.proofs.Common.{◌≡◌, List, ℕ, ◌∷◌, rules, ap, ◌∙◌}
 use Rattle.ms_tree.proofs.EntryLaws.{text_of, files_of}
 use Rattle.ms_tree.proofs.DraftLaws.{Lent, lent, found_none, found_more, found_other, found_all, answered}
 use Rattle.ms_tree.proofs.draft.Draft.directories.Goals as goal

@@ -1,4 +1,4 @@
-use Rattle.std.proofs.Common.{◌≡◌, ℕ, List, ap, ◌∙◌, refl}
+use Rattle.std.proofs.Common.{◌≡◌, ap, ◌∙◌, refl}
 use Rattle.ms_tree.specs.Files.{FileList, text_at, with_file}
 use Rattle.ms_tree.proofs.FileLaws.{text_at-with_file}
 use Rattle.ms_tree.proofs.EntryLaws.{entry_inserted, files_of}
