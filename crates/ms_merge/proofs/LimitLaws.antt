@@ -1,5 +1,5 @@
 -- What is tested row by row, and name by name.
-use Rattle.std.proofs.Common.{◌≡◌, ℕ, zero, suc, ◌+◌, ◌<◌, ◌≤◌, Bool, true, false, cond, nat_lt, ltb, List, [], ◌∷◌, ◌++◌, length, map, take, get_or, find, All, Option, Some, None, string_bytes, refl, sym, ◌∙◌, ap, subst, arith, take_all, sum_by}
+use Rattle.std.proofs.Common.{◌≡◌, ℕ, zero, suc, ◌+◌, ◌<◌, ◌≤◌, Bool, true, false, nat_lt, List, [], ◌∷◌, ◌++◌, length, map, take, get_or, find, All, Some, string_bytes, refl, sym, ◌∙◌, ap, subst, arith, take_all, sum_by}
 use Rattle.std.specs.Map.{keys_of, values_of}
 use Rattle.std.proofs.lemmas.Bool.{lt-ltb, le-ltb}
 use Rattle.std.proofs.lemmas.List.{take_more, take-map, map-append, length-map, get_or-map}

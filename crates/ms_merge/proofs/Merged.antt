@@ -1,16 +1,15 @@
 -- The steps of a merge together.
-use Rattle.std.proofs.Common.{◌≡◌, ℕ, Bool, true, false, if◌then◌else◌, List, [], ◌++◌, Option, Some, None, is_some, Err, refl, sym, ◌∙◌, ap, subst}
+use Rattle.std.proofs.Common.{◌≡◌, ℕ, if◌then◌else◌, List, [], ◌++◌, Some, None, is_some, Err, refl, sym, ◌∙◌, ap, subst}
 use Rattle.std.specs.Ordering.{nat_cmp}
 use Rattle.std.specs.Cmp.Lexicographic.{slice_cmp}
 use Rattle.std.specs.List.Sorted.{IsStrictlySortedBy}
 use Rattle.std.specs.Map.{keys_of}
 use Rattle.std.specs.Option.{option_or}
-use Rattle.std.proofs.lemmas.Bool.{false≢true}
 use Rattle.std.proofs.lemmas.List.{map-append}
 use Rattle.ms_record.specs.declared.refusal.Refusal.{Refusal}
 use Rattle.ms_record.specs.declared.refusal.Refusal.TheVariants as refusals
 use Rattle.ms_tree.specs.Files.{FileList, text_at, IsFiles}
-use Rattle.ms_tree.specs.Merging.{Side, is_same, standing, conflicts, directories, AreTagged, IsMerge, names_of, IsMerged, KeepsLimits, PassesLimit, Merges}
+use Rattle.ms_tree.specs.Merging.{Side, standing, conflicts, directories, AreTagged, IsMerge, names_of, IsMerged, KeepsLimits, PassesLimit, Merges}
 use Rattle.ms_merge.specs.Settling.{settled_at, Settles, Removes, HasMerged}
 use Rattle.ms_merge.specs.Naming.{IsNamed}
 use Rattle.ms_merge.specs.Passing.{Fits}

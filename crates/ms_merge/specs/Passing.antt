@@ -1,6 +1,5 @@
 -- Which limit merged files pass first, part by part.
-use Rattle.std.specs.Prelude.{◌≡◌, ℕ, ◌≤◌, List, length, All, Result, Ok, Err}
-use Rattle.ms_base.specs.declared.names.Quantity.{Quantity}
+use Rattle.std.specs.Prelude.{ℕ, ◌≤◌, List, length, All, Result, Ok, Err}
 use Rattle.ms_base.specs.declared.names.Quantity.TheVariants as quantities
 use Rattle.ms_record.specs.declared.refusal.Refusal.{Refusal}
 use Rattle.ms_record.specs.declared.refusal.Refusal.TheVariants as refusals

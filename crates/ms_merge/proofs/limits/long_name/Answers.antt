@@ -1,4 +1,4 @@
-use Rattle.std.proofs.Common.{◌≡◌, ◌≤◌, length, string_bytes, ap, arith}
+use Rattle.std.proofs.Common.{◌≤◌, length, ap, arith}
 use Rattle.ms_merge.proofs.LimitLaws.{first_long, all_more, all_names}
 use Rattle.ms_merge.proofs.limits.long_name.Goals as goal
 

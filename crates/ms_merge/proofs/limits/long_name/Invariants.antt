@@ -1,5 +1,4 @@
 use Rattle.std.proofs.Common.{◌≤◌, All, map, take, length}
-use Rattle.ms_tree.specs.Paths.{parts_of, long_part}
 use Rattle.ms_merge.proofs.LimitLaws.{name_of}
 use Rattle.ms_merge.proofs.limits.long_name.Given as goal
 

@@ -1,4 +1,4 @@
-use Rattle.std.proofs.Common.{◌≡◌, ℕ, List, map, sym, ap, ◌∙◌, subst}
+use Rattle.std.proofs.Common.{◌≡◌, List, map, sym, ap, ◌∙◌, subst}
 use Rattle.ms_tree.specs.declared.files.FileRef.{FileRef}
 use Rattle.ms_tree.specs.declared.draft.DraftFile.{DraftFile}
 use Rattle.ms_tree.specs.DraftFiles.{drafted}
@@ -7,7 +7,7 @@ use Rattle.ms_tree.specs.Merging.{MayMerge}
 use Rattle.ms_merge.specs.Settling.{HasMerged}
 use Rattle.ms_merge.proofs.Steps.{shown}
 use Rattle.ms_merge.proofs.LimitLaws.{short_rows}
-use Rattle.ms_merge.proofs.Merged.{judged_fit, refused, answered}
+use Rattle.ms_merge.proofs.Merged.{judged_fit, refused}
 use Rattle.ms_merge.proofs.merging.merge.Goals as goal
 
 pub check-requires : goal.check-requires

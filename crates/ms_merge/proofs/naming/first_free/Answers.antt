@@ -1,4 +1,4 @@
-use Rattle.std.proofs.Common.{map, false, true, below_more}
+use Rattle.std.proofs.Common.{map, false, below_more}
 use Rattle.std.specs.Map.{keys_of}
 use Rattle.ms_tree.specs.DraftFiles.{drafted}
 use Rattle.ms_merge.proofs.GivenNames.{free_is, tagged_first}

@@ -1,7 +1,6 @@
-use Rattle.std.proofs.Common.{◌≡◌, ℕ, List, map, get_or, true, false, ap, ◌∙◌, sym}
+use Rattle.std.proofs.Common.{ℕ, List, map, get_or, true, false, ap, ◌∙◌}
 use Rattle.ms_tree.specs.declared.files.FileRef.{FileRef}
 use Rattle.ms_tree.specs.DraftFiles.{drafted}
-use Rattle.ms_tree.specs.Merging.{conflicts}
 use Rattle.ms_merge.proofs.Steps.{conflicts_none, conflicts_more, conflicts_other, conflicts_all, conflict_is, shown_more, shown, no_row}
 use Rattle.ms_merge.proofs.sides.conflicts.Goals as goal
 use Rattle.ms_merge.proofs.sides.conflicts.Goals.{then-is_conflict+in_ok-path+in_ok-push, else-is_conflict}
