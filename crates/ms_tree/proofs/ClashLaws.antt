@@ -105,15 +105,15 @@ starts_between p f s from below h =
     let r = begins_between p f (drop (length p) s) from (sym (ap (λ (t : List ℕ). slice_cmp nat_cmp f t) e) ∙ below) in
     (starts_decides f p).1 r.0 r.1
 
-module _ {K : Type 0} (bytes : K → List ℕ) (front : List ℕ) where
+module _ {K V : Type 0} (bytes : K → List ℕ) (shown : V → List ℕ) (front : List ℕ) where
   -- the entries from the text on, as a range tests them
-  abbrev pub from_front : List (K × List ℕ) → List (K × List ℕ)
+  abbrev pub from_front : List (K × V) → List (K × V)
   from_front es = filter (λ e. is_le (slice_cmp nat_cmp front (bytes e.0)) && true) es
 
-  abbrev any_starts : List (K × List ℕ) → Bool
-  any_starts es = list_any (λ f. starts_with nat_eq f.0 front) (by_bytes bytes es)
+  abbrev any_starts : List (K × V) → Bool
+  any_starts es = list_any (λ f. starts_with nat_eq f.0 front) (by_bytes bytes shown es)
 
-  none_later : (k : K) (es : List (K × List ℕ)) → is_le (slice_cmp nat_cmp front (bytes k)) ≡ true → starts_with nat_eq (bytes k) front ≡ false
+  none_later : (k : K) (es : List (K × V)) → is_le (slice_cmp nat_cmp front (bytes k)) ≡ true → starts_with nat_eq (bytes k) front ≡ false
       → AllByRecursion (λ y. slice_cmp nat_cmp (bytes k) (bytes y) ≡ Less) (keys_of es) → any_starts es ≡ false
   none_later k [] from off above = refl
   none_later k (e ∷ es) from off above = at_test (starts_with nat_eq (bytes e.0) front) refl (none_later k es from off above.1)
@@ -123,7 +123,7 @@ module _ {K : Type 0} (bytes : K → List ℕ) (front : List ℕ) where
       at_test false h rest = rest
 
   -- the first entry from the text on begins with it, if any entry does
-  pub any_is_first : (es : List (K × List ℕ)) → IsStrictlySortedBy (λ x y. slice_cmp nat_cmp (bytes x) (bytes y)) (keys_of es) → (e : K × List ℕ) (rest : List (K × List ℕ)) → from_front es ≡ e ∷ rest
+  pub any_is_first : (es : List (K × V)) → IsStrictlySortedBy (λ x y. slice_cmp nat_cmp (bytes x) (bytes y)) (keys_of es) → (e : K × V) (rest : List (K × V)) → from_front es ≡ e ∷ rest
       → starts_with nat_eq (bytes e.0) front ≡ any_starts es
   unfolding IsStrictlySortedBy
   any_is_first [] rising e rest h = absurd cc
@@ -139,11 +139,11 @@ module _ {K : Type 0} (bytes : K → List ℕ) (front : List ℕ) where
 
       at_first : (b : Bool) → is_le (slice_cmp nat_cmp front (bytes f.0)) ≡ b → cond (b && true) (f ∷ from_front es) (from_front es) ≡ e ∷ rest
           → (from_front es ≡ e ∷ rest → starts_with nat_eq (bytes e.0) front ≡ any_starts es) → starts_with nat_eq (bytes e.0) front ≡ any_starts (f ∷ es)
-      at_first true from h on = let same : f ≡ e = cc in ap (λ (x : K × List ℕ). starts_with nat_eq (bytes x.0) front) (sym same) ∙ here (starts_with nat_eq (bytes f.0) front) refl from
+      at_first true from h on = let same : f ≡ e = cc in ap (λ (x : K × V). starts_with nat_eq (bytes x.0) front) (sym same) ∙ here (starts_with nat_eq (bytes f.0) front) refl from
       at_first false before h on = on h ∙ past (starts_with nat_eq (bytes f.0) front) refl before
 
   -- no entry begins with the text, if none lies from it on
-  pub none_from : (es : List (K × List ℕ)) → from_front es ≡ [] → any_starts es ≡ false
+  pub none_from : (es : List (K × V)) → from_front es ≡ [] → any_starts es ≡ false
   none_from [] h = refl
   none_from (f ∷ es) h = at_first (is_le (slice_cmp nat_cmp front (bytes f.0))) refl h (none_from es)
     where

@@ -40,7 +40,7 @@ both_ok : {W : Type 0} (r : Result (Unit {0}) FilesError) (next : Unit {0} → R
 both_ok (Ok u) next w h = (refl, h)
 both_ok (Err e) next w h = absurd (err_is_not_ok e w h)
 
-all_short : (parts : List (List ℕ)) → long_part parts ≤ 200 → All (λ part. length part ≤ 200) parts
+pub all_short : (parts : List (List ℕ)) → long_part parts ≤ 200 → All (λ part. length part ≤ 200) parts
 all_short [] h = All-nil _
 all_short (part ∷ parts) h = at_test (nat_lt 200 (length part)) refl h (all_short parts)
   where

@@ -2,6 +2,7 @@ pub mod PathLaws
 pub mod MapViews
 pub mod FileLaws
 pub mod KeptLaws
+pub mod EntryLaws
 pub mod InsideLaws
 pub mod ClashLaws
 pub mod ListingLaws
@@ -37,3 +38,8 @@ pub mod OnePart
 pub mod WholeFolder
 pub mod Whole
 pub mod Counting
+pub mod DraftLaws
+pub mod Building
+pub mod TaggedPaths
+pub mod MergeNames
+pub mod MergeLaws

@@ -6,3 +6,6 @@ pub mod Listings
 pub mod Gathering
 pub mod Planting
 pub mod Folders
+pub mod Merging
+pub mod DraftFiles
+pub mod DraftInside

@@ -6,6 +6,7 @@ ghost use Rattle.std.specs.List.{list_any};
 ghost use Rattle.ms_tree.specs.Paths.{is_directory_of};
 ghost use Rattle.ms_tree.specs.Files.{text_at, with_file, without, total_of, is_clash, path_limits, size_limits, added, Adds, IsFiles};
 
+use crate::entries::is_above;
 use crate::limits::{
     FilesError, MOST_FILE, MOST_FILES, MOST_LEVELS, MOST_PART, MOST_PATH, MOST_TOTAL, within,
 };
@@ -56,6 +57,21 @@ impl Files {
         }
     }
 
+    /// Files that keep all rules, with copies of their texts.
+    pub fn from_rows(alloc: Global, rows: &[FileRef]) -> Result<Files, NoMemory>
+        requires { IsFiles (map (λ r. (r.path.now, r.text.now)) rows.now) }
+        ensures { IfOk result (λ files. files ≡ map (λ r. (r.path.now, r.text.now)) rows.now) }
+    {
+        let mut map = BTreeMap::new(alloc);
+        let mut total = 0;
+        for row in rows {
+            let path = String::from_str(alloc, row.path)?;
+            map.insert(path, Bytes::of(alloc, row.text)?)?;
+            total += row.text.len() as u64;
+        }
+        Ok(Files { alloc, map, total })
+    }
+
     /// Puts a text at a path, in place of the one that was there.
     pub fn add(&mut self, path: &str, text: Bytes) -> Result<(), FilesError>
         ensures { Adds self.old self.new (added self.old path.now text) result }
@@ -65,7 +81,7 @@ impl Files {
         }
         check_path(path)?;
         self.check_sizes(path, text.as_slice())?;
-        if self.is_under(path) || self.is_over(path)? {
+        if self.is_under(path) || self.is_directory(path)? {
             return Err(FilesError::Clash);
         }
         self.put(path, text)?;
@@ -105,7 +121,7 @@ impl Files {
     }
 
     /// What is true of all files: their rules are kept.
-    pub(crate) fn shows(&self)
+    pub fn shows(&self)
         ensures { IsFiles self.now }
     {
         let _ = &self.map;
@@ -144,6 +160,13 @@ impl Files {
         Ok(rows)
     }
 
+    /// Whether the path is a directory of a file.
+    pub fn is_directory(&self, path: &str) -> Result<bool, NoMemory>
+        ensures { IfOk result (λ b. b ≡ list_any (λ f. is_directory_of path.now f.0) self.now) }
+    {
+        is_above(self.alloc, &self.map, path)
+    }
+
     /// The limits on the text, and on the files once it stands at the path.
     fn check_sizes(&self, path: &str, text: &[u8]) -> Result<(), FilesError>
         ensures { result ≡ size_limits text.now (with_file self.now path.now text.now) }
@@ -172,18 +195,6 @@ impl Files {
             }
         }
         false
-    }
-
-    /// Whether the path is a directory of a file.
-    fn is_over(&self, path: &str) -> Result<bool, NoMemory>
-        ensures { IfOk result (λ b. b ≡ list_any (λ f. is_directory_of path.now f.0) self.now) }
-    {
-        let mut front = String::from_str(self.alloc, path)?;
-        front.push('/')?;
-        match self.map.range(&front..).next() {
-            Some((next, _)) => Ok(next.as_bytes().starts_with(front.as_bytes())),
-            None => Ok(false),
-        }
     }
 
     /// Puts a text at a path that keeps all rules.

@@ -14,7 +14,7 @@ returns-in-Some c =
     ap (λ (text : List ℕ). Some text) c.as_str.ensures.value
     ∙ ap (λ (o : Option (Bor (String Global))). option_map (λ (k : String Global). string_bytes k) (option_map deref o)) (sym c.in-Some.is)
     ∙ ap (λ (o : Option (String Global)). option_map (λ (k : String Global). string_bytes k) o) key
-    ∙ path_by_bytes (λ (k : String Global). string_bytes k) c.self.inside.map.entries c.args.place
+    ∙ path_by_bytes (λ (k : String Global). string_bytes k) (λ (t : List ℕ). t) c.self.inside.map.entries c.args.place
     ∙ ap (λ (files : FileList). option_map (λ f. f.0) (slice_get files c.args.place)) c.self.view_is
 
 pub returns-in-None : goal.returns-in-None
@@ -23,5 +23,5 @@ returns-in-None c =
     nth_from_yields_List c.nth.result _ c.args.place c.nth.ensures.ran (YieldsList-from_rest _ c.keys.ensures.rest) in
     ap (λ (o : Option (Bor (String Global))). option_map (λ (k : String Global). string_bytes k) (option_map deref o)) (sym c.in-None.is)
     ∙ ap (λ (o : Option (String Global)). option_map (λ (k : String Global). string_bytes k) o) key
-    ∙ path_by_bytes (λ (k : String Global). string_bytes k) c.self.inside.map.entries c.args.place
+    ∙ path_by_bytes (λ (k : String Global). string_bytes k) (λ (t : List ℕ). t) c.self.inside.map.entries c.args.place
     ∙ ap (λ (files : FileList). option_map (λ f. f.0) (slice_get files c.args.place)) c.self.view_is

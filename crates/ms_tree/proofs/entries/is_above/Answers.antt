@@ -1,17 +1,17 @@
 use Rattle.std.proofs.Common.{ℕ, List, string_bytes, nat_eq, lit<, ap, ◌∙◌}
 use Rattle.std.specs.List.{starts_with}
-use Rattle.ms_tree.proofs.InsideLaws.{over_first, over_none}
-use Rattle.ms_tree.proofs.files.Files.is_over.Goals as goal
+use Rattle.ms_tree.proofs.EntryLaws.{over_first, over_none}
+use Rattle.ms_tree.proofs.entries.is_above.Goals as goal
 
 pub returns : goal.returns
-returns c =
-    over_none c.self.inside.map.entries c.args.self.now c.args.path.now _ _ _ c.self.view_is c.in_ok-front.ensures.ok c.in_ok-push.ensures.bytes (c.in_ok-push.ensures.ascii (lit< tt))
+returns g c =
+    over_none c.args.map.now.entries c.args.path.now _ _ _ c.in_ok-front.ensures.ok c.in_ok-push.ensures.bytes (c.in_ok-push.ensures.ascii (lit< tt))
     c.range.result c.in-None.ensures.steps.0 (c.range.ensures.between tt)
 
 pub returns-in-Some : goal.returns-in-Some
-returns-in-Some c =
+returns-in-Some g c =
     c.starts_with.ensures.value
     ∙ ap (λ (p : List ℕ). starts_with nat_eq c.as_bytes.result.now p) c.as_bytes-in-Some.ensures.value
     ∙ ap (λ (s : List ℕ). starts_with nat_eq s (string_bytes c.push.new.self)) c.as_bytes.ensures.value
-    ∙ over_first c.self.inside.map.entries c.args.self.now c.args.path.now _ _ _ c.self.view_is c.range.ensures.ordered c.in_ok-front.ensures.ok c.in_ok-push.ensures.bytes (c.in_ok-push.ensures.ascii (lit< tt))
+    ∙ over_first c.args.map.now.entries c.args.path.now _ _ _ c.range.ensures.ordered c.in_ok-front.ensures.ok c.in_ok-push.ensures.bytes (c.in_ok-push.ensures.ascii (lit< tt))
     _ _ c.range.result c.in-Some.ensures.steps (c.range.ensures.between tt)

@@ -1,0 +1,4 @@
+pub mod Steps
+pub mod GivenNames
+pub mod LimitLaws
+pub mod Merged
