@@ -2,7 +2,8 @@
 
 ghost use Rattle.std.specs.Prelude.{◌≡◌, ℕ, List, map, IfOk};
 ghost use Rattle.ms_tree.specs.Files.{text_at};
-ghost use Rattle.ms_tree.specs.Merging.{IsTag, Merges};
+ghost use Rattle.ms_text.specs.Labels.{IsLabel};
+ghost use Rattle.ms_tree.specs.Merging.{Merges};
 ghost use Rattle.ms_tree.specs.DraftFiles.{drafted};
 ghost use Rattle.ms_merge.specs.Settling.{settled_at, Removes, HasMerged};
 
@@ -26,7 +27,7 @@ pub fn merge(
     theirs: &Files,
     tag: &str,
 ) -> Result<Files, Refusal>
-    requires { IsTag tag.now }
+    requires { IsLabel tag.now }
     ensures { Merges base.now ours.now theirs.now tag.now result }
 {
     let sides = Sides { base, ours, theirs };

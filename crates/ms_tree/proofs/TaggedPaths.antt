@@ -3,14 +3,15 @@ use Rattle.std.proofs.Common.{◌≡◌, ◌≢◌, ℕ, zero, suc, ◌+◌, ◌
 use Rattle.std.specs.Fmt.{decimal, digits, digits_onto, digit_glyph}
 use Rattle.std.specs.List.{onto_first}
 use Rattle.std.proofs.lemmas.Bool.{false_from_ne_true}
-use Rattle.std.proofs.lemmas.Bool.Decides.{Decides-eqb}
+use Rattle.std.proofs.lemmas.Bool.Decides.{Decides-eqb, nat_tests}
 use Rattle.std.proofs.lemmas.List.Elements.{All-nil, All-cons, All-head, All-tail, All-append, All-contains, All-weaker, Contains-append_right, Contains-append_cases}
 use Rattle.std.proofs.lemmas.List.Splits.{slice_split_none}
 use Rattle.std.proofs.lemmas.Str.{IsUtf8-append, IsUtf8-from_ascii}
 use Rattle.std.proofs.lemmas.Str.Ascii.{IsAscii-from_all}
 use Rattle.ms_tree.specs.Paths.{parts_of, IsPart, IsPath, IsDirectoryOf}
 use Rattle.ms_tree.specs.Files.{IsFile}
-use Rattle.ms_tree.specs.Merging.{IsLabelByte, IsTag, tagged}
+use Rattle.ms_tree.specs.Merging.{tagged}
+use Rattle.ms_text.specs.Labels.{IsLabel, is_label_byte}
 use Rattle.ms_tree.proofs.Members.{in_here}
 
 -- ---- what is put behind a path
@@ -24,18 +25,8 @@ pub record IsPlainByte (b : ℕ) : Type 0 where
 abbrev pub IsPlain : List ℕ → Type 0
 IsPlain text = All IsPlainByte text
 
-letter_plain : (b : ℕ) → IsLabelByte b → IsPlainByte b
-letter_plain b h =
-    elim h [
-      | inl small ↦ record { ascii = omega arith; no_slash = omega arith; no_nul = omega arith }
-      | inr other ↦ elim other [
-        | inl digit ↦ record { ascii = omega arith; no_slash = omega arith; no_nul = omega arith }
-        | inr sign ↦ elim sign [
-          | inl low ↦ record { ascii = omega arith; no_slash = omega arith; no_nul = omega arith }
-          | inr dash ↦ record { ascii = omega arith; no_slash = omega arith; no_nul = omega arith }
-        ]
-      ]
-    ]
+letter_plain : (b : ℕ) → is_label_byte b ≡ true → IsPlainByte b
+letter_plain b h = record { ascii = grind (arith, nat_tests); no_slash = grind (arith, nat_tests); no_nul = grind (arith, nat_tests) }
 
 glyph_plain : (d : ℕ) → d < 10 → IsPlainByte (digit_glyph false d)
 glyph_plain d small = by (ltb d 10) refl
@@ -71,20 +62,16 @@ tagged_is tag path (suc k) = append_assoc path (46 ∷ tag) (46 ∷ decimal (suc
 dot_plain : (rest : List ℕ) → IsPlain rest → IsPlain (46 ∷ rest)
 dot_plain rest h = All-cons IsPlainByte 46 rest (record { ascii = lit< tt; no_slash = omega arith; no_nul = omega arith }) h
 
-ending_plain : (tag : List ℕ) (k : ℕ) → IsTag tag → IsPlain (ending tag k)
+ending_plain : (tag : List ℕ) (k : ℕ) → IsLabel tag → IsPlain (ending tag k)
 unfolding ending
-ending_plain tag zero is = dot_plain tag (All-weaker IsLabelByte IsPlainByte letter_plain tag is.letters)
+ending_plain tag zero is = dot_plain tag (All-weaker (λ (b : ℕ). is_label_byte b ≡ true) IsPlainByte letter_plain tag is.bytes)
 ending_plain tag (suc k) is =
-    All-append IsPlainByte (46 ∷ tag) (46 ∷ decimal (suc (suc k))) (dot_plain tag (All-weaker IsLabelByte IsPlainByte letter_plain tag is.letters)) (dot_plain (decimal (suc (suc k))) (decimal_plain (suc (suc k))))
+    All-append IsPlainByte (46 ∷ tag) (46 ∷ decimal (suc (suc k))) (dot_plain tag (All-weaker (λ (b : ℕ). is_label_byte b ≡ true) IsPlainByte letter_plain tag is.bytes)) (dot_plain (decimal (suc (suc k))) (decimal_plain (suc (suc k))))
 
-not_short : (tag : List ℕ) → tag ≢ [] → 1 ≤ length tag
-not_short [] h = absurd (h refl)
-not_short (b ∷ tag) h = omega arith
-
-ending_long : (tag : List ℕ) (k : ℕ) → IsTag tag → 2 ≤ length (ending tag k)
+ending_long : (tag : List ℕ) (k : ℕ) → IsLabel tag → 2 ≤ length (ending tag k)
 unfolding ending
-ending_long tag zero is = omega (arith, not_short tag is.filled)
-ending_long tag (suc k) is = omega (arith, not_short tag is.filled, length-append (46 ∷ tag) (46 ∷ decimal (suc (suc k))))
+ending_long tag zero is = omega (arith, is.some)
+ending_long tag (suc k) is = omega (arith, is.some, length-append (46 ∷ tag) (46 ∷ decimal (suc (suc k))))
 
 -- ---- the directories of a path with such an end
 
@@ -98,7 +85,7 @@ cut_end (y ∷ dir) rest (x ∷ path) end plain e =
     let d = cut_end dir rest path end plain (let q : path ++ end ≡ dir ++ 47 ∷ rest = cc in q) in
     (d.0, ap (λ (b : ℕ). b ∷ path) same ∙ ap (λ (l : List ℕ). y ∷ l) d.1)
 
-pub directory_of_tagged : (tag path dir : List ℕ) (k : ℕ) → IsTag tag → IsDirectoryOf dir (tagged tag path k) → IsDirectoryOf dir path
+pub directory_of_tagged : (tag path dir : List ℕ) (k : ℕ) → IsLabel tag → IsDirectoryOf dir (tagged tag path k) → IsDirectoryOf dir path
 directory_of_tagged tag path dir k is d = cut_end dir d.0 path (ending tag k) (ending_plain tag k is) (sym (tagged_is tag path k) ∙ d.1)
 
 -- ---- the parts of a path with such an end
@@ -191,5 +178,5 @@ ended_row path end text plain long is =
       text_short = is.text_short;
     }
 
-pub tagged_row : (tag path text : List ℕ) (k : ℕ) → IsTag tag → IsRow path text → IsRow (tagged tag path k) text
+pub tagged_row : (tag path text : List ℕ) (k : ℕ) → IsLabel tag → IsRow path text → IsRow (tagged tag path k) text
 tagged_row tag path text k is row = subst (λ (p : List ℕ). IsRow p text) (sym (tagged_is tag path k)) (ended_row path (ending tag k) text (ending_plain tag k is) (ending_long tag k is) row)

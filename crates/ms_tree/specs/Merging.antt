@@ -11,19 +11,9 @@ use Rattle.ms_base.specs.declared.names.Quantity.{Quantity}
 use Rattle.ms_base.specs.declared.names.Quantity.TheVariants as quantities
 use Rattle.ms_record.specs.declared.refusal.Refusal.{Refusal}
 use Rattle.ms_record.specs.declared.refusal.Refusal.TheVariants as refusals
+use Rattle.ms_text.specs.Labels.{IsLabel}
 use Rattle.ms_tree.specs.Paths.{parts_of, long_part, is_directory_of}
 use Rattle.ms_tree.specs.Files.{FileList, text_at, total_of, IsFiles}
-
--- a small letter, a digit, `_` or `-`
-abbrev pub IsLabelByte : ℕ → Type 0
-IsLabelByte b = ((97 ≤ b) × (b ≤ 122)) ⊎ (((48 ≤ b) × (b ≤ 57)) ⊎ ((b ≡ 95) ⊎ (b ≡ 45)))
-
--- the label of a service or client: 1 to 24 such bytes, the first not `-`
-pub record IsTag (tag : List ℕ) : Type 0 where
-  pub filled : tag ≢ []
-  pub short : length tag ≤ 24
-  pub letters : All IsLabelByte tag
-  pub first : slice_get tag 0 ≢ Some 45
 
 -- a text, or nothing where no file is
 abbrev pub Side : Type 0
@@ -98,12 +88,12 @@ pub record IsMerge (base ours theirs : FileList) (tag : List ℕ) (files : FileL
 abbrev pub names_of : {base ours theirs : FileList} {tag : List ℕ} {files : FileList} → IsMerge base ours theirs tag files → List (List ℕ)
 names_of merge = keys_of merge.doubled ++ keys_of merge.moved
 
--- what may be merged: files that keep all rules, with a tag
+-- what may be merged: files that keep all rules, with the label of a client as the tag
 pub record MayMerge (base ours theirs : FileList) (tag : List ℕ) : Type 0 where
   pub base_whole : IsFiles base
   pub ours_whole : IsFiles ours
   pub theirs_whole : IsFiles theirs
-  pub is_tag : IsTag tag
+  pub is_tag : IsLabel tag
 
 -- the merge, which passes no limit
 pub record IsMerged (base ours theirs : FileList) (tag : List ℕ) (files : FileList) : Type 0 where
