@@ -181,11 +181,14 @@ pub told_first : (setting : Setting) (n : ℕ) → IsSetting setting → configu
 told_first setting n set lt =
     let empty : View = replicate n [] in
     let wide : configuration < length empty = subst (λ m. configuration < m) (sym (length-replicate n (let none : List Item = [] in none))) lt in
-    inr (inr (setting, record {
-      alone = item_here empty configuration (Told setting) wide ∙ ap (λ (l : List Item). l ++ Told setting ∷ []) (list_at-replicate n configuration);
-      ranges = set;
-      supported = λ owner before item after other is. absurd (nothing_before before item after (is ∙ item_else empty configuration (Told setting) owner other ∙ list_at-replicate n owner));
-    }))
+    inr (inr (
+      setting,
+      record {
+        alone = item_here empty configuration (Told setting) wide ∙ ap (λ (l : List Item). l ++ Told setting ∷ []) (list_at-replicate n configuration);
+        ranges = set;
+        supported = λ owner before item after other is. absurd (nothing_before before item after (is ∙ item_else empty configuration (Told setting) owner other ∙ list_at-replicate n owner));
+      },
+    ))
 
 pub untold_first : (n : ℕ) → configuration < n → IsClosed (with_item (replicate n []) configuration Untold)
 untold_first n lt =

@@ -5,8 +5,8 @@ ghost use Rattle.std.specs.Option.{option_map};
 ghost use Rattle.serde_json.specs.View.{view};
 ghost use Rattle.ms_plan.specs.ConfigLines.{json_of, key_count, number_in, label_in, head_in, service_in, client_in, line_in, line_at};
 
-use ms_text::Label;
 use ms_base::NoMemory;
+use ms_text::Label;
 use serde_json::{Category, Value};
 use std::alloc::Global;
 

@@ -6,8 +6,8 @@ ghost use Rattle.ms_plan.specs.Drafts.{begun, has_copies as fits, with_service, 
 ghost use Rattle.ms_plan.specs.declared.config_line.ServiceLine.{ServiceLine};
 
 use crate::config_line::{Line, ServiceLine};
-use ms_text::Label;
 use ms_base::NoMemory;
+use ms_text::Label;
 use std::alloc::Global;
 use std::marker::Model;
 

@@ -8,17 +8,11 @@ use crate::setting::Setting;
 #[derive(Drop)]
 pub enum Item {
     /// A service: one event more of its log.
-    Log {
-        event: LogEvent,
-    },
+    Log { event: LogEvent },
     /// A client: an offer that it declared, which is an `Accept`.
-    Offer {
-        offer: Record,
-    },
+    Offer { offer: Record },
     /// The configuration: what all clients agree on from the start.
-    Told {
-        setting: Setting,
-    },
+    Told { setting: Setting },
     /// The configuration: nothing is claimed of what the others tell.
     Untold,
 }

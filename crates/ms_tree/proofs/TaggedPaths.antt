@@ -68,6 +68,10 @@ ending_plain tag zero is = dot_plain tag (All-weaker (λ (b : ℕ). is_label_byt
 ending_plain tag (suc k) is =
     All-append IsPlainByte (46 ∷ tag) (46 ∷ decimal (suc (suc k))) (dot_plain tag (All-weaker (λ (b : ℕ). is_label_byte b ≡ true) IsPlainByte letter_plain tag is.bytes)) (dot_plain (decimal (suc (suc k))) (decimal_plain (suc (suc k))))
 
+not_short : (part : List ℕ) → part ≢ [] → 1 ≤ length part
+not_short [] h = absurd (h refl)
+not_short (b ∷ part) h = omega arith
+
 ending_long : (tag : List ℕ) (k : ℕ) → IsLabel tag → 2 ≤ length (ending tag k)
 unfolding ending
 ending_long tag zero is = omega (arith, is.some)
