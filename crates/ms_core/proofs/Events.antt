@@ -32,7 +32,7 @@ use Rattle.sha2.proofs.Facts256.{length-sha256}
 use Rattle.ms_core.specs.declared.event.Event.TheVariants as events
 use Rattle.ms_core.specs.declared.event.Push.{Push}
 use Rattle.ms_core.specs.Steps.{IsPlacedByPuts, IsPlacedNow, WantIsPlaced, pushed, last_version, version_of, turned, bidding, with_bid, bid_made, CanBid, FitsNow, StartStep, StopStep, BidStep, TurnStep, ReadStep, OfferStep, IsEvent}
-use Rattle.ms_core.proofs.Invariant.{IsWanted, IsBid, ClientOk, Inv}
+use Rattle.ms_core.proofs.Invariant.{IsAccept, IsWanted, IsBid, ClientOk, Inv}
 use Rattle.ms_core.proofs.Keeping.{MayOffer, keeps_silent, keeps_quiet}
 
 -- no member at all
@@ -47,12 +47,13 @@ keeps_start setting old client new s h =
     let ok = h.clients client s.c s.is in
     let d : ClientView = record { on = true; kept = s.c.kept; offers = s.c.offers; known = replicate setting.services 0; chain = []; bid = None } in
     subst (λ (w : WorldView). Inv setting w) (sym s.becomes)
-    (keeps_quiet setting old client s.c d h s.is refl (record { known = ok.known; own = ok.own; rising = ok.rising; linked = none_linked setting (log_of old); bid = no_bid setting (log_of old) client d refl }))
+    (keeps_quiet setting old client s.c d h s.is refl (record { known = ok.known; accepts = ok.accepts; own = ok.own; rising = ok.rising; linked = none_linked setting (log_of old); bid = no_bid setting (log_of old) client d refl }))
 
 -- a client whose round, offers, chain and bid stay
 same_client : (setting : Setting) (logs : ℕ → List LogEvent) (client : ℕ) (c d : ClientView) → d.kept ≡ c.kept → d.offers ≡ c.offers → d.chain ≡ c.chain → d.bid ≡ c.bid → ClientOk setting logs client c → ClientOk setting logs client d
 same_client setting logs client c d ek eo ec eb ok = record {
   known = ok.known;
+  accepts = λ i r g. ok.accepts i r (ap (λ (l : List Record). slice_get l i) (sym eo) ∙ g);
   own = λ i r g. let o = ok.own i r (ap (λ (l : List Record). slice_get l i) (sym eo) ∙ g) in (o.0, omega (arith, o.1, ek));
   rising = λ i j r q l gr gq. ok.rising i j r q l (ap (λ (xs : List Record). slice_get xs i) (sym eo) ∙ gr) (ap (λ (xs : List Record). slice_get xs j) (sym eo) ∙ gq);
   linked = subst (λ (l : List Entry). IsLinked (votes_of_logs logs) (all_services setting.services) (origin_of setting) l) (sym ec) ok.linked;
@@ -106,6 +107,7 @@ bid_keeps setting old client round c want few can wanted h =
     let m : Record = Prepare (next_of c) (ballot_of_round client round) in
     keeps_silent setting old client c d (to_all setting.services m) h can.up.is refl (record {
       known = ok.known;
+      accepts = ok.accepts;
       own = λ i r g. ((ok.own i r g).0, omega (arith, (ok.own i r g).1, can.above.0));
       rising = ok.rising;
       linked = ok.linked;
@@ -308,6 +310,10 @@ offer_client l setting w client new s h =
     let done : Bidding = record s.bid { offered = true } in
     record {
       known = ok.known;
+      accepts = λ i q g. elim (append_cases s.c.offers (r ∷ []) i q g) [
+        | inl there ↦ ok.accepts i q there
+        | inr n ↦ subst IsAccept (alone r q n.0 n.2).1 tt
+      ];
       own = λ i q g. elim (append_cases s.c.offers (r ∷ []) i q g) [
         | inl there ↦ ok.own i q there
         | inr n ↦ (let a = (alone r q n.0 n.2).1 in (ap (λ (x : Record). (ballot_of x).client.0) (sym a), omega (arith, b.kept, ap (λ (x : Record). (ballot_of x).round) a)))

@@ -86,7 +86,7 @@ told_may_follow view setting owner item told lt other supports more wide closed 
 
 -- an event of a service that the view supports may follow
 pub event_may_follow : (view : View) (setting : Setting) (service : ℕ) (event : LogEvent) → list_at view configuration ≡ Told setting ∷ [] → IsSetting setting → service < setting.services → service < length view
-    → SupportsEvent setting view event → MayFollow IsClosed (length view) view service (Log event)
+    → SupportsEvent setting (log_in view) (offers_told view) event → MayFollow IsClosed (length view) view service (Log event)
 event_may_follow view setting service event told set low lt supports =
     told_may_follow view setting service (Log event) told lt (λ e. absurd (omega (arith, set.few_services)))
     (λ more begins. elim (support_stays setting view more begins service [] (Log event) (inl (low, supports))) [ inl s ↦ inl s | inr c ↦ absurd c.3 ])
@@ -124,7 +124,8 @@ offers_before view service client event low =
     let apart : owner_of_client client ≢ service = λ e. absurd (omega (arith, e, low)) in
     ap (λ (l : List Item). filter_map offer_in l) (item_else view service (Log event) (owner_of_client client) apart)
 
-supports_before : (setting : Setting) (view : View) (service : ℕ) (event : LogEvent) → service < 16 → service < length view → SupportsEvent setting (with_item view service (Log event)) event → SupportsEvent setting view event
+supports_before : (setting : Setting) (view : View) (service : ℕ) (event : LogEvent) → service < 16 → service < length view → SupportsEvent setting (log_in (with_item view service (Log event))) (offers_told (with_item view service (Log event))) event
+    → SupportsEvent setting (log_in view) (offers_told view) event
 supports_before setting view service (Rec list text) low lt h = λ votes k b e spells.
     subst (λ (l : List Record). (place : ℕ) × (slice_get l place ≡ Some (Accept k b e))) (offers_before view service b.client.0 (Rec list text) low) (h votes k b e spells)
 supports_before setting view service (Put generation name text) low lt h = h
@@ -198,7 +199,7 @@ untold_first n lt =
 
 -- an offer that is supported may be told
 pub offer_closed : (view : View) (setting : Setting) (client position : ℕ) (ballot : Ballot) (entry : Entry) → IsClosed view → list_at view configuration ≡ Told setting ∷ [] → client < setting.clients
-    → owner_of_client client < length view → SupportsOffer setting view client (list_at view (owner_of_client client)) position ballot entry
+    → owner_of_client client < length view → SupportsOffer setting (log_in view) client (offers_told view client) position ballot entry
     → IsClosed (with_item view (owner_of_client client) (Offer (Accept position ballot entry)))
 offer_closed view setting client position ballot entry closed told low lt supports =
     let h = tells view setting closed told in

@@ -7,7 +7,7 @@ use Rattle.ms_record.specs.declared.entry.Entry.{Entry}
 use Rattle.ms_record.specs.declared.log.LogEvent.{LogEvent}
 use Rattle.ms_record.specs.declared.log.LogEvent.TheVariants.{Drop}
 use Rattle.ms_record.specs.declared.record.Record.{Record}
-use Rattle.ms_record.specs.declared.record.Record.TheVariants.{Accept}
+use Rattle.ms_record.specs.declared.record.Record.TheVariants.{Prepare, Accept}
 use Rattle.ms_record.specs.declared.setting.Setting.{Setting}
 use Rattle.ms_record.specs.Chains.{LinksOn, IsLinked, all_services, generation_in}
 use Rattle.ms_record.specs.Entries.{IsEntry}
@@ -42,8 +42,14 @@ pub record IsBid (setting : Setting) (logs : ℕ → List LogEvent) (client : �
   pub fresh : bid.offered ≡ false → (i : ℕ) (r : Record) → slice_get c.offers i ≡ Some r → (ballot_of r).round < bid.round
   pub want : (e : Entry) → bid.want ≡ Some e → IsWanted setting logs client c e
 
+-- an offer is an Accept
+abbrev pub IsAccept : Record → Type 0
+IsAccept (Accept k b e) = Unit {0}
+IsAccept (Prepare k b) = ⊥
+
 pub record ClientOk (setting : Setting) (logs : ℕ → List LogEvent) (client : ℕ) (c : ClientView) : Type 0 where
   pub known : client < setting.clients
+  pub accepts : (i : ℕ) (r : Record) → slice_get c.offers i ≡ Some r → IsAccept r
   pub own : (i : ℕ) (r : Record) → slice_get c.offers i ≡ Some r → ((ballot_of r).client.0 ≡ client) × ((ballot_of r).round ≤ c.kept)
   pub rising : (i j : ℕ) (r q : Record) → i < j → slice_get c.offers i ≡ Some r → slice_get c.offers j ≡ Some q → (ballot_of r).round < (ballot_of q).round
   pub linked : IsLinked (votes_of_logs logs) (all_services setting.services) (origin_of setting) c.chain
@@ -87,6 +93,7 @@ bid_grows setting old new client c bid g h = record {
 pub client_grows : (l : Laws) (setting : Setting) (old new : ℕ → List LogEvent) (client : ℕ) (c : ClientView) → LogsGrow old new → ClientOk setting old client c → ClientOk setting new client c
 client_grows l setting old new client c g h = record {
   known = h.known;
+  accepts = h.accepts;
   own = h.own;
   rising = h.rising;
   linked = linked_grows setting old new c.chain g h.linked;

@@ -25,3 +25,4 @@ pub mod Offering
 pub mod Telling
 pub mod Viewing
 pub mod Following
+pub mod Supporting

@@ -62,6 +62,7 @@ keeps_learn l setting old client new s h =
     subst (λ (w : WorldView). Inv setting w) (sym s.becomes)
     (keeps_quiet setting old client s.c (record s.c { chain = s.c.chain ++ s.entry ∷ []; bid = None }) h s.up.is refl (record {
       known = ok.known;
+      accepts = ok.accepts;
       own = ok.own;
       rising = ok.rising;
       linked = l.goes_on (votes_of_world old) (origin_of setting) s.c.chain s.entry ok.linked chosen s.can.links;
@@ -172,6 +173,7 @@ start_inv setting =
           let new : new_client ≡ c = replicate_all setting.clients new_client c client is in
           subst (λ (x : ClientView). ClientOk setting (log_of w) client x) new (record {
             known = omega (arith, slice_get_within w.clients client c is, length-replicate setting.clients new_client);
+            accepts = λ i r g. absurd (let q : None ≡ Some r = g in cc);
             own = λ i r g. absurd (let q : None ≡ Some r = g in cc);
             rising = λ i j r q l g. absurd (let p : None ≡ Some r = g in cc);
             linked = none_linked setting (log_of w);

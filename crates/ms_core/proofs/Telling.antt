@@ -6,7 +6,7 @@ use Rattle.std.proofs.lemmas.Option.{slice_get_within, get_or_from_slice_get}
 use Rattle.std.specs.List.{filter_map, cons_option}
 use Rattle.sha2.specs.Sha256.{sha256}
 use Rattle.ms_base.specs.declared.names.Name.{Name}
-use Rattle.ms_core.proofs.Places.{same_or_not, append_cases}
+use Rattle.ms_core.proofs.Places.{same_or_not, append_cases, in_here, in_later}
 use Rattle.ms_core.specs.Valid.{IsBacked, IsValid}
 use Rattle.ms_core.specs.Views.{View, configuration, owner_of_client, log_in, offers_told, votes_told, IsWhole, SupportsEvent, SupportsOffer, IsSupported, TellsSetting, IsClosed}
 use Rattle.ms_ken.specs.Lists.{list_at}
@@ -21,7 +21,7 @@ use Rattle.ms_record.specs.declared.log.LogEvent.TheVariants.{Rec, Put, Drop}
 use Rattle.ms_record.specs.declared.record.Record.{Record}
 use Rattle.ms_record.specs.declared.record.Record.TheVariants.{Prepare, Accept}
 use Rattle.ms_record.specs.declared.setting.Setting.{Setting}
-use Rattle.ms_record.specs.Items.{event_in, offer_in}
+use Rattle.ms_record.specs.Items.{event_in, offer_in, offers_of_items}
 use Rattle.ms_record.specs.Logs.{texts_in}
 use Rattle.ms_record.specs.Offers.{IsOffered, IsSound}
 use Rattle.ms_record.specs.Reading.{record_at, votes_of, with_record}
@@ -65,6 +65,17 @@ is_log (Log q) event h = (let e : q ≡ event = cc in ap (λ (z : LogEvent). Log
 is_log (Offer q) event h = absurd (let q : None ≡ Some event = h in cc)
 is_log (Told s) event h = absurd (let q : None ≡ Some event = h in cc)
 is_log Untold event h = absurd (let q : None ≡ Some event = h in cc)
+
+pub offer_contained : (items : List Item) (i : ℕ) (r : Record) → slice_get items i ≡ Some (Offer r) → Contains (offers_of_items items) r
+offer_contained [] i r h = absurd (let q : None ≡ Some (Offer r) = h in cc)
+offer_contained (Offer q ∷ items) zero r h = let same : q ≡ r = cc in subst (λ (x : Record). Contains (x ∷ offers_of_items items) r) (sym same) (in_here r (offers_of_items items))
+offer_contained (Offer q ∷ items) (suc i) r h = in_later q (offers_of_items items) r (offer_contained items i r h)
+offer_contained (Log event ∷ items) zero r h = absurd (let q : Some (Log event) ≡ Some (Offer r) = h in cc)
+offer_contained (Log event ∷ items) (suc i) r h = offer_contained items i r h
+offer_contained (Told s ∷ items) zero r h = absurd (let q : Some (Told s) ≡ Some (Offer r) = h in cc)
+offer_contained (Told s ∷ items) (suc i) r h = offer_contained items i r h
+offer_contained (Untold ∷ items) zero r h = absurd (let q : Some Untold ≡ Some (Offer r) = h in cc)
+offer_contained (Untold ∷ items) (suc i) r h = offer_contained items i r h
 
 -- ---- where a vote comes from
 
@@ -119,7 +130,7 @@ tells view setting (inr (inr h)) told =
     subst (λ (s : Setting). TellsSetting view s) same h.1
 
 -- an event of a log is supported, and its owner is a service
-pub log_event : (view : View) (setting : Setting) → TellsSetting view setting → (s i : ℕ) (event : LogEvent) → slice_get (list_at view s) i ≡ Some (Log event) → (s < setting.services) × SupportsEvent setting view event
+pub log_event : (view : View) (setting : Setting) → TellsSetting view setting → (s i : ℕ) (event : LogEvent) → slice_get (list_at view s) i ≡ Some (Log event) → (s < setting.services) × SupportsEvent setting (log_in view) (offers_told view) event
 log_event view setting h s i event at =
     elim (same_or_not s configuration) [
       | inl same ↦ absurd (let w : Told setting ≡ Log event = told_item setting i (Log event) (ap (λ (l : List Item). slice_get l i) (sym (ap (list_at view) same ∙ h.alone)) ∙ at) in cc)
@@ -130,7 +141,7 @@ log_event view setting h s i event at =
 pub in_log : (view : View) (s : ℕ) (i : ℕ) (event : LogEvent) → slice_get (log_in view s) i ≡ Some event → (j : ℕ) × (slice_get (list_at view s) j ≡ Some (Log event))
 in_log view s i event h = let p = from_item event_in (list_at view s) i event h in (p.0, p.2 ∙ ap (λ (x : Item). Some x) (is_log p.1 event p.3))
 
-pub log_supported : (view : View) (setting : Setting) → TellsSetting view setting → (s : ℕ) (event : LogEvent) → Contains (log_in view s) event → (s < setting.services) × SupportsEvent setting view event
+pub log_supported : (view : View) (setting : Setting) → TellsSetting view setting → (s : ℕ) (event : LogEvent) → Contains (log_in view s) event → (s < setting.services) × SupportsEvent setting (log_in view) (offers_told view) event
 log_supported view setting h s event has =
     let i = contains_at (log_in view s) event has in
     let j = in_log view s i.0 event i.1 in
@@ -153,10 +164,10 @@ pub record IsBackedOffer (setting : Setting) (view : View) (k : ℕ) (b : Ballot
   pub many : length before ≡ place
   pub splits : before ++ Offer (Accept k b e) ∷ after ≡ list_at view (owner_of_client b.client.0)
   pub client : b.client.0 < setting.clients
-  pub supports : SupportsOffer setting view b.client.0 before k b e
+  pub supports : SupportsOffer setting (log_in view) b.client.0 (offers_of_items before) k b e
 
 pub offer_at : (view : View) (setting : Setting) → TellsSetting view setting → (client place k : ℕ) (b : Ballot) (e : Entry) → slice_get (list_at view (owner_of_client client)) place ≡ Some (Offer (Accept k b e))
-    → (before : List Item) × (after : List Item) × (length before ≡ place) × (before ++ Offer (Accept k b e) ∷ after ≡ list_at view (owner_of_client client)) × (client < setting.clients) × SupportsOffer setting view client before k b e
+    → (before : List Item) × (after : List Item) × (length before ≡ place) × (before ++ Offer (Accept k b e) ∷ after ≡ list_at view (owner_of_client client)) × (client < setting.clients) × SupportsOffer setting (log_in view) client (offers_of_items before) k b e
 offer_at view setting h client place k b e at =
     elim (same_or_not (owner_of_client client) configuration) [
       | inl same ↦ absurd (let w : Told setting ≡ Offer (Accept k b e) = told_item setting place (Offer (Accept k b e)) (ap (λ (l : List Item). slice_get l place) (sym (ap (list_at view) same ∙ h.alone)) ∙ at) in cc)
@@ -164,7 +175,7 @@ offer_at view setting h client place k b e at =
           elim (h.supported (owner_of_client client) p.0 (Offer (Accept k b e)) p.1 other p.3) [
             | inl s ↦ absurd s.1
             | inr c ↦ (let same : c.0 ≡ client = omega (arith, c.1) in
-                (p.0, p.1, p.2, p.3, subst (λ (n : ℕ). n < setting.clients) same c.2, subst (λ (n : ℕ). SupportsOffer setting view n p.0 k b e) same c.3))
+                (p.0, p.1, p.2, p.3, subst (λ (n : ℕ). n < setting.clients) same c.2, subst (λ (n : ℕ). SupportsOffer setting (log_in view) n (offers_of_items p.0) k b e) same c.3))
           ])
     ]
 
@@ -181,7 +192,7 @@ not_before : (setting : Setting) (view : View) (k : ℕ) (b : Ballot) (e f : Ent
 not_before setting view k b e f i j one other less =
     let in_whole : slice_get (other.before ++ Offer (Accept k b f) ∷ other.after) i ≡ Some (Offer (Accept k b e)) = ap (λ (l : List Item). slice_get l i) other.splits ∙ one.stands in
     elim (append_cases other.before (Offer (Accept k b f) ∷ other.after) i (Offer (Accept k b e)) in_whole) [
-      | inl there ↦ omega (arith, other.supports.later k b e (at_contains other.before i (Offer (Accept k b e)) there))
+      | inl there ↦ omega (arith, other.supports.declared.later k b e (offer_contained other.before i (Accept k b e) there))
       | inr past ↦ omega (arith, past.1, other.many, less)
     ]
 
@@ -202,5 +213,5 @@ pub told_sound : (setting : Setting) (view : View) → TellsSetting view setting
 told_sound setting view h k = record {
   one_offer = λ b e f x y. one_offer setting view h k b e f x y;
   taken_offered = λ s place b e t. vote_offered view setting h s place k b e t.stands;
-  justified = λ b e o. (offered view setting h k b e o).1.supports.justified;
+  justified = λ b e o. (offered view setting h k b e o).1.supports.declared.justified;
 }

@@ -35,7 +35,7 @@ view_valid setting view h k e c =
     let m = counted c.chosen.part (services_below setting.services) (omega (arith, c.chosen.majority.more_than_half)) in
     let t = c.chosen.taken m.0 m.1 in
     let o = offered view setting h k c.chosen.ballot e (vote_offered view setting h m.0 t.0 k c.chosen.ballot e t.1.stands) in
-    (o.1.supports.valid, o.1.supports.whole)
+    (o.1.supports.declared.valid, o.1.supports.whole)
 
 pub view_next : (setting : Setting) (view : View) → TellsSetting view setting → AllNext (votes_told view) (origin_of setting)
 view_next setting view h k e c = let v = (view_valid setting view h k e c).0 in record { members = v.members; linked = v.linked; at = v.at; links = v.links }

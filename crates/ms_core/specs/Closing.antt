@@ -56,7 +56,7 @@ whole_stays : (old new : ℕ → List LogEvent) (plan : PlanView) (version : Nam
 whole_stays old new plan version grows h =
     whole_more (λ s name. HasPut (old s) plan.generation name) (λ s name. HasPut (new s) plan.generation name) plan version (λ s name there. put_stays old new s plan.generation name grows there) h
 
-event_stays : (setting : Setting) (xs ys : View) → Begins xs ys → (event : LogEvent) → SupportsEvent setting xs event → SupportsEvent setting ys event
+event_stays : (setting : Setting) (xs ys : View) → Begins xs ys → (event : LogEvent) → SupportsEvent setting (log_in xs) (offers_told xs) event → SupportsEvent setting (log_in ys) (offers_told ys) event
 event_stays setting xs ys begins (Rec list text) h = λ votes k b e spells. offered_stays xs ys begins k b e (h votes k b e spells)
 event_stays setting xs ys begins (Put generation name text) h = h
 event_stays setting xs ys begins (Drop floor) h = backed_grows setting (log_in xs) (log_in ys) floor (logs_grow xs ys begins) h
@@ -72,11 +72,13 @@ unfolding valid_grows
 own_stays setting xs ys begins client before (Offer (Accept k b e)) h =
     let grows = logs_grow xs ys begins in
     record {
-      own = h.own;
-      later = h.later;
-      justified = justified_grows (votes_told xs) (votes_told ys) (services_below setting.services) k b e (votes_grow (log_in xs) (log_in ys) grows) h.justified;
-      valid = valid_grows setting (log_in xs) (log_in ys) k e grows h.valid;
-      whole = whole_stays (log_in xs) (log_in ys) h.valid.plan e.version grows h.whole;
+      declared = record {
+        own = h.declared.own;
+        later = h.declared.later;
+        justified = justified_grows (votes_told xs) (votes_told ys) (services_below setting.services) k b e (votes_grow (log_in xs) (log_in ys) grows) h.declared.justified;
+        valid = valid_grows setting (log_in xs) (log_in ys) k e grows h.declared.valid;
+      };
+      whole = whole_stays (log_in xs) (log_in ys) h.declared.valid.plan e.version grows h.whole;
     }
 own_stays setting xs ys begins client before (Offer (Prepare k b)) h = h
 own_stays setting xs ys begins client before (Log event) h = h

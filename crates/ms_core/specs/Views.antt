@@ -77,32 +77,41 @@ abbrev pub StaysWhole : (ℕ → List LogEvent) → PlanView → Name → Type 0
 StaysWhole logs plan version = WholeBy (λ s name. Stands (logs s) plan.generation name) plan version
 
 -- an Accept that a text of a vote list spells was offered
-abbrev pub SupportsVote : View → List ℕ → Type 0
-SupportsVote view text = (position : ℕ) (ballot : Ballot) (entry : Entry) → record_at text ≡ Some (Accept position ballot entry) → IsOffered (offers_told view) position ballot entry
+abbrev pub SupportsVote : (ℕ → List Record) → List ℕ → Type 0
+SupportsVote offers text = (position : ℕ) (ballot : Ballot) (entry : Entry) → record_at text ≡ Some (Accept position ballot entry) → IsOffered offers position ballot entry
 
--- what supports an event of a service's log: a text of a list that has no votes needs nothing
-abbrev pub SupportsEvent : Setting → View → LogEvent → Type 0
-SupportsEvent setting view (Rec list text) = list.0 ≡ 0 → SupportsVote view text
-SupportsEvent setting view (Put generation name text) = name.0 ≡ sha256 text
-SupportsEvent setting view (Drop floor) = IsBacked setting (log_in view) floor
+-- what supports an event of a service's log, where these are all logs and the offers of the clients: a text of a list that has
+-- no votes needs nothing
+abbrev pub SupportsEvent : Setting → (ℕ → List LogEvent) → (ℕ → List Record) → LogEvent → Type 0
+SupportsEvent setting logs offers (Rec list text) = list.0 ≡ 0 → SupportsVote offers text
+SupportsEvent setting logs offers (Put generation name text) = name.0 ≡ sha256 text
+SupportsEvent setting logs offers (Drop floor) = IsBacked setting logs floor
 
 abbrev pub SupportsLog : Setting → View → Item → Type 0
-SupportsLog setting view (Log event) = SupportsEvent setting view event
+SupportsLog setting view (Log event) = SupportsEvent setting (log_in view) (offers_told view) event
 SupportsLog setting view (Offer offer) = ⊥
 SupportsLog setting view (Told other) = ⊥
 SupportsLog setting view Untold = ⊥
 
--- what supports an offer of a client behind its earlier items: it is the client's own, of a greater round than each of those,
--- follows the rule at a majority, and its entry links on to a linked list with a version that is whole
-pub record SupportsOffer (setting : Setting) (view : View) (client : ℕ) (before : List Item) (position : ℕ) (ballot : Ballot) (entry : Entry) : Type 0 where
+-- an offer that a client may declare behind its earlier ones: it is the client's own, of a greater round than each of those,
+-- follows the rule at a majority, and its entry links on to a linked list with a version that is placed
+pub record IsDeclared (setting : Setting) (logs : ℕ → List LogEvent) (client : ℕ) (before : List Record) (position : ℕ) (ballot : Ballot) (entry : Entry) : Type 0 where
   pub own : ballot.client.0 ≡ client
-  pub later : (k : ℕ) (b : Ballot) (e : Entry) → Contains before (Offer (Accept k b e)) → b.round < ballot.round
-  pub justified : JustifiedBy (votes_told view) (services_below setting.services) position ballot entry
-  pub valid : IsValid setting (log_in view) position entry
-  pub whole : IsWhole (log_in view) valid.plan entry.version
+  pub later : (k : ℕ) (b : Ballot) (e : Entry) → Contains before (Accept k b e) → b.round < ballot.round
+  pub justified : JustifiedBy (votes_of_logs logs) (services_below setting.services) position ballot entry
+  pub valid : IsValid setting logs position entry
+
+abbrev pub MayDeclare : Setting → (ℕ → List LogEvent) → ℕ → List Record → Record → Type 0
+MayDeclare setting logs client before (Accept k b e) = IsDeclared setting logs client before k b e
+MayDeclare setting logs client before (Prepare k b) = ⊥
+
+-- what supports an offer: it may be declared, and its version is whole
+pub record SupportsOffer (setting : Setting) (logs : ℕ → List LogEvent) (client : ℕ) (before : List Record) (position : ℕ) (ballot : Ballot) (entry : Entry) : Type 0 where
+  pub declared : IsDeclared setting logs client before position ballot entry
+  pub whole : IsWhole logs declared.valid.plan entry.version
 
 abbrev pub SupportsOwn : Setting → View → ℕ → List Item → Item → Type 0
-SupportsOwn setting view client before (Offer (Accept k b e)) = SupportsOffer setting view client before k b e
+SupportsOwn setting view client before (Offer (Accept k b e)) = SupportsOffer setting (log_in view) client (offers_of_items before) k b e
 SupportsOwn setting view client before (Offer (Prepare k b)) = ⊥
 SupportsOwn setting view client before (Log event) = ⊥
 SupportsOwn setting view client before (Told other) = ⊥

@@ -1,12 +1,15 @@
 //! What holds in every run.
 
-ghost use Rattle.std.specs.Prelude.{◌≡◌, ◌+◌, ◌⊎◌, ℕ, All, List, Some, slice_get};
+ghost use Rattle.std.specs.Prelude.{◌≡◌, ◌+◌, ◌<◌, ◌⊎◌, ◌++◌, ◌∷◌, ℕ, All, Contains, List, Some, slice_get};
 ghost use Rattle.ms_core.specs.declared.event.Event.{Event};
 ghost use Rattle.ms_core.specs.Placing.{StaysPlaced};
 ghost use Rattle.ms_core.specs.Steps.{IsEvent, IsRun};
 ghost use Rattle.ms_core.specs.Valid.{IsValid, IsLive, Names};
-ghost use Rattle.ms_core.specs.Worlds.{ClientView, WorldView, log_of, votes_of_world};
+ghost use Rattle.ms_core.specs.Views.{MayDeclare, SupportsEvent};
+ghost use Rattle.ms_core.specs.Worlds.{ClientView, WorldView, log_of, offers_in, votes_of_world};
 ghost use Rattle.ms_record.specs.declared.entry.Entry.{Entry};
+ghost use Rattle.ms_record.specs.declared.log.LogEvent.{LogEvent};
+ghost use Rattle.ms_record.specs.declared.record.Record.{Record};
 ghost use Rattle.ms_record.specs.declared.setting.Setting.{Setting};
 ghost use Rattle.ms_record.specs.Chains.{Agrees, Begins, IsChain, IsChosen, all_services};
 ghost use Rattle.ms_record.specs.Plans.{PlanView};
@@ -37,6 +40,13 @@ pub fn every_run()
     // Each member of a client's chain names the SHA-256 of the bytes of the member before it.
     ensures names { (setting : Setting) (events : List Event) (w : WorldView) → IsSetting setting → All IsEvent events → IsRun setting events w
         → (client : ℕ) (c : ClientView) → slice_get w.clients client ≡ Some c → Names setting c.chain }
+    // What a service's log has is supported by the logs and the declared offers.
+    ensures supported { (setting : Setting) (events : List Event) (w : WorldView) → IsSetting setting → All IsEvent events → IsRun setting events w
+        → (service : ℕ) (event : LogEvent) → Contains (log_of w service) event → (service < setting.services) × SupportsEvent setting (log_of w) (offers_in w) event }
+    // What a client declared it may declare, by the logs, behind what it declared before.
+    ensures declared { (setting : Setting) (events : List Event) (w : WorldView) → IsSetting setting → All IsEvent events → IsRun setting events w
+        → (client : ℕ) (c : ClientView) (before : List Record) (offer : Record) (after : List Record) → slice_get w.clients client ≡ Some c → before ++ offer ∷ after ≡ c.offers
+        → (client < setting.clients) × MayDeclare setting (log_of w) client before offer }
     // A live master stays placed, whatever was dropped.
     ensures live { (setting : Setting) (events : List Event) (w : WorldView) (chain : List Entry) → IsSetting setting → All IsEvent events → IsRun setting events w
         → IsChain (votes_of_world w) (all_services setting.services) (origin_of setting) chain

@@ -91,12 +91,12 @@ pub fn may_follow()
     ensures event { (view : View) (owner : ℕ) (event : LogEvent) → owner < length view → IsClosed (with_item view owner (Log event)) → MayFollow IsClosed (length view) view owner (Log event) }
     // Where a setting is told, an event of a service may follow that the view supports.
     ensures supported { (view : View) (setting : Setting) (service : ℕ) (event : LogEvent) → list_at view configuration ≡ Told setting ∷ [] → IsSetting setting
-        → service < setting.services → service < length view → SupportsEvent setting view event → MayFollow IsClosed (length view) view service (Log event) }
+        → service < setting.services → service < length view → SupportsEvent setting (log_in view) (offers_told view) event → MayFollow IsClosed (length view) view service (Log event) }
     // Where nothing is claimed, any item may follow but the configuration's.
     ensures untold { (view : View) (owner : ℕ) (item : Item) → list_at view configuration ≡ Untold ∷ [] → owner ≢ configuration → MayFollow IsClosed (length view) view owner item }
     // A client may tell an offer that the view supports.
     ensures offer { (view : View) (setting : Setting) (client position : ℕ) (ballot : Ballot) (entry : Entry) → IsClosed view → list_at view configuration ≡ Told setting ∷ []
-        → client < setting.clients → owner_of_client client < length view → SupportsOffer setting view client (list_at view (owner_of_client client)) position ballot entry
+        → client < setting.clients → owner_of_client client < length view → SupportsOffer setting (log_in view) client (offers_told view client) position ballot entry
         → IsClosed (with_item view (owner_of_client client) (Offer (Accept position ballot entry))) }
     // The configuration tells first: a setting in its ranges, or that nothing is claimed.
     ensures first { (setting : Setting) (owners : ℕ) → IsSetting setting → configuration < owners → IsClosed (with_item (replicate owners []) configuration (Told setting)) }

@@ -3,6 +3,7 @@ use Rattle.std.proofs.lemmas.Bool.{cases_lt}
 use Rattle.ms_core.proofs.Laws.{Laws}
 use Rattle.ms_core.proofs.Living.{live_placed}
 use Rattle.ms_core.proofs.Runs.{run_inv, inv_agrees, inv_valid, inv_stands, inv_begins}
+use Rattle.ms_core.proofs.Supporting.{run_supported, run_declares}
 use Rattle.ms_core.proofs.law.every_run.Goals as goal
 
 laws : (c : goal.After-one_spelling) → Laws
@@ -48,3 +49,9 @@ returns-clause-names c = λ setting events w set fit run client x at i e is.
 
 pub returns-clause-live : goal.returns-clause-live
 returns-clause-live c = λ setting events w chain set fit run is i e plan live. live_placed (laws c) setting w chain i e plan set (run_inv (laws c) setting events w set fit run) is live
+
+pub returns-clause-supported : goal.returns-clause-supported
+returns-clause-supported c = λ setting events w set fit run s event has. run_supported setting w s event (run_inv (laws c) setting events w set fit run) has
+
+pub returns-clause-declared : goal.returns-clause-declared
+returns-clause-declared c = λ setting events w set fit run client x before r after is splits. run_declares setting w client x before r after (run_inv (laws c) setting events w set fit run) is splits
