@@ -1,6 +1,6 @@
 //! The mapping: in which order the services of a plan are to hold an object.
 
-ghost use Rattle.std.specs.Prelude.{◌≡◌, ◌≢◌, ◌≤◌, ℕ, List, Contains, map, length, IfOk};
+ghost use Rattle.std.specs.Prelude.{◌≡◌, ◌≢◌, ◌+◌, ◌≤◌, ℕ, List, Contains, map, length, IfOk};
 ghost use Rattle.std.specs.List.Sorted.{IsPermutation, IsSorted};
 ghost use Rattle.ms_base.specs.declared.names.Name.{Name};
 ghost use Rattle.ms_base.specs.declared.names.ServiceId.{ServiceId};
@@ -99,6 +99,9 @@ pub fn stability()
     ensures stays { (plan other : PlanView) (service place : ServiceId) (name : Name)
         → IsWithout service plan other → plan.replicas ≤ other.replicas → Contains (places_of plan name) place → place ≢ service
         → Contains (places_of other name) place }
+    ensures fewer { (plan other : PlanView) (service place : ServiceId) (name : Name)
+        → IsWithout service plan other → plan.replicas ≤ other.replicas + 1 → Contains (places_of plan name) service
+        → Contains (places_of plan name) place → place ≢ service → Contains (places_of other name) place }
     ensures unmoved { (plan other : PlanView) (service : ServiceId) (name : Name)
         → IsWithout service plan other → other.replicas ≡ plan.replicas → ¬ Contains (places_of plan name) service
         → places_of other name ≡ places_of plan name }
