@@ -1,15 +1,17 @@
 -- What a call of the link inside says of the link with faults.
-use Rattle.std.proofs.Common.{◌≡◌, ℕ, ◌+◌, ◌≤◌, ◌&&◌, Bool, true, false, List, Option, Some, None, Result, Ok, Err, IfSome, refl, sym, ap, ◌∙◌, subst, slice_get, length, arith}
+use Rattle.std.proofs.Common.{◌≡◌, ℕ, ◌+◌, ◌≤◌, ◌&&◌, Bool, true, false, List, Option, Some, None, Result, Ok, Err, IfSome, refl, sym, ap, ◌∙◌, subst, slice_get, length, ◌⊎◌, inl, inr, arith}
 use Rattle.std.specs.List.{list_all}
 use Rattle.ms_base.specs.Counts.{Rose}
+use Rattle.ms_base.specs.Memory.{one_more}
 use Rattle.ms_core.specs.Views.{IsClosed}
 use Rattle.ms_fault.specs.Changes.{Changes}
 use Rattle.ms_fault.specs.declared.fault.Fault.{Fault}
-use Rattle.ms_fault.specs.Faults.{FaultView, link_of, shows_kept, HasFailed, IsCalled, IsNext}
+use Rattle.ms_fault.specs.declared.fault.Fault.TheVariants as faults
+use Rattle.ms_fault.specs.Faults.{FaultView, link_of, due, shows_kept, faults_after, ChangesBy}
 use Rattle.ms_ken.specs.Known.{Known}
 use Rattle.ms_ken.specs.Lists.{list_at, Begins, MayFollow}
 use Rattle.ms_ken.specs.Prefixes.{prefix_length}
-use Rattle.ms_ken.specs.Rows.{begins_trans, may_follow_later}
+use Rattle.ms_ken.specs.Rows.{begins_self, begins_trans, may_follow_later}
 use Rattle.ms_link.specs.declared.fault.LinkError.{LinkError}
 use Rattle.ms_link.specs.declared.fault.LinkError.TheVariants as errors
 use Rattle.ms_link.specs.Links.{LinkView, Stays, Learns, IsAdded, IsStale, Tells, Puts}
@@ -29,29 +31,6 @@ pub follows_on : (old new : LinkView) (lists more : List (List Item)) (event : L
 follows_on old new lists more event stays begins h =
     subst (λ (link : LinkView). MayFollow IsClosed link.board.words more link.service (Log event)) (sym stays.same)
     (may_follow_later IsClosed old.board.words lists more old.service (Log event) begins h)
-
-link_parts : LinkView → List Fault → Fault → ℕ → LinkView
-link_parts inner script rest faults = record {
-  board = inner.board;
-  service = inner.service;
-  faults = faults;
-  lists = inner.lists;
-  objects = inner.objects && (list_all shows_kept script && shows_kept rest);
-}
-
-pub stays_met : (old new : FaultView) → IsNext old new → new.faults ≡ old.faults → Stays (link_of old) (link_of new)
-unfolding link_parts
-stays_met old new next same = record {
-  same = λ i. link_parts (next.inner.same i) (next.script i) (next.rest i) new.faults;
-  later = omega (arith, same);
-}
-
-pub stays_called : (old new : FaultView) → IsCalled old new → Stays (link_of old) (link_of new)
-unfolding link_parts
-stays_called old new call = record {
-  same = λ i. link_parts (call.inner.same i) ((call.same i).script) ((call.same i).rest) new.faults;
-  later = call.later;
-}
 
 pub stays_then : (old mid new : LinkView) → Stays old mid → Stays mid new → Stays old new
 stays_then old mid new one other = record {
@@ -115,6 +94,16 @@ unfolding later_link
 changes_before link later after k0 k1 k2 event r stays learns h =
     by_event link after later.faults k0 k1 k2 event r stays.later learns (subst (λ (l : LinkView). Changes l after k1 k2 event r) stays.same h)
 
+learns_nothing : (k : Known Item) → Learns k k
+learns_nothing k = record { board = refl; word = refl; own = same k.word; more = begins_self k.lists }
+  where
+    same : (o : Option ℕ) → IfSome o (λ word. list_at k.lists word ≡ list_at k.lists word)
+    same None = tt
+    same (Some word) = refl
+
+pub changes_later : (link later after : LinkView) (k0 k1 : Known Item) (event : LogEvent) (r : Result Unit LinkError) → Stays link later → Changes later after k0 k1 event r → Changes link after k0 k1 event r
+changes_later link later after k0 k1 event r stays h = changes_before link later after k0 k0 k1 event r stays (learns_nothing k0) h
+
 -- ---- what a change leaves, by what it leaves of the link inside
 
 added_inside : (f : FaultView) (before after : Known Item) (event : LogEvent) → IsAdded f.inner before after event → IsAdded (link_of f) before after event
@@ -124,30 +113,69 @@ both_true : (a b : Bool) → (a && b) ≡ true → a ≡ true
 both_true true b h = refl
 both_true false b h = h
 
-tells_inside : (old new : FaultView) (k0 k1 : Known Item) (event : LogEvent) (r : Result Unit LinkError) → (HasFailed r → Rose old.faults new.faults) → Tells old.inner new.inner k0 k1 event r → Tells (link_of old) (link_of new) k0 k1 event r
-tells_inside old new k0 k1 event (Ok u) rose h = λ lists. added_inside old k0 k1 event (h lists)
-tells_inside old new k0 k1 event (Err errors.Failed) rose h = rose tt
-tells_inside old new k0 k1 event (Err (errors.Stale floor)) rose h = h
-tells_inside old new k0 k1 event (Err errors.NoMemory) rose h = tt
+rose_is : (a b : ℕ) → b ≡ one_more a → Rose a b
+rose_is a b is = grind arith
+
+tells_inside : (old new : FaultView) (k0 k1 : Known Item) (event : LogEvent) (r : Result Unit LinkError) → new.faults ≡ faults_after old.faults r → Tells old.inner new.inner k0 k1 event r → Tells (link_of old) (link_of new) k0 k1 event r
+tells_inside old new k0 k1 event (Ok u) count h = λ lists. added_inside old k0 k1 event (h lists)
+tells_inside old new k0 k1 event (Err errors.Failed) count h = rose_is old.faults new.faults count
+tells_inside old new k0 k1 event (Err (errors.Stale floor)) count h = h
+tells_inside old new k0 k1 event (Err errors.NoMemory) count h = tt
 
 stale_inside : (f : FaultView) (after : Known Item) (generation floor : ℕ) → IsStale f.inner after generation floor → IsStale (link_of f) after generation floor
 stale_inside f after generation floor h = record { below = h.below; dropped = h.dropped; greatest = h.greatest }
 
-puts_inside : (old new : FaultView) (k0 k1 : Known Item) (generation : ℕ) (event : LogEvent) (r : Result Unit LinkError) → (HasFailed r → Rose old.faults new.faults) → Puts old.inner new.inner k0 k1 generation event r
+puts_inside : (old new : FaultView) (k0 k1 : Known Item) (generation : ℕ) (event : LogEvent) (r : Result Unit LinkError) → new.faults ≡ faults_after old.faults r → Puts old.inner new.inner k0 k1 generation event r
     → Puts (link_of old) (link_of new) k0 k1 generation event r
-puts_inside old new k0 k1 generation event (Ok u) rose h = (λ lists. added_inside old k0 k1 event (h.0 lists), λ lists objects. h.1 lists (both_true old.inner.objects _ objects))
-puts_inside old new k0 k1 generation event (Err errors.Failed) rose h = rose tt
-puts_inside old new k0 k1 generation event (Err (errors.Stale floor)) rose h = stale_inside old k1 generation floor h
-puts_inside old new k0 k1 generation event (Err errors.NoMemory) rose h = tt
+puts_inside old new k0 k1 generation event (Ok u) count h = (λ lists. added_inside old k0 k1 event (h.0 lists), λ lists objects. h.1 lists (both_true old.inner.objects _ objects))
+puts_inside old new k0 k1 generation event (Err errors.Failed) count h = rose_is old.faults new.faults count
+puts_inside old new k0 k1 generation event (Err (errors.Stale floor)) count h = stale_inside old k1 generation floor h
+puts_inside old new k0 k1 generation event (Err errors.NoMemory) count h = tt
 
-pub changes_inside : (old new : FaultView) (k0 k1 : Known Item) (event : LogEvent) (r : Result Unit LinkError) → (HasFailed r → Rose old.faults new.faults) → Changes old.inner new.inner k0 k1 event r
+changes_inside : (old new : FaultView) (k0 k1 : Known Item) (event : LogEvent) (r : Result Unit LinkError) → new.faults ≡ faults_after old.faults r → Changes old.inner new.inner k0 k1 event r
     → Changes (link_of old) (link_of new) k0 k1 event r
-changes_inside old new k0 k1 (Rec list text) r rose h = tells_inside old new k0 k1 (Rec list text) r rose h
-changes_inside old new k0 k1 (Put generation name text) r rose h = puts_inside old new k0 k1 generation (Put generation name text) r rose h
-changes_inside old new k0 k1 (Drop floor) r rose h = tells_inside old new k0 k1 (Drop floor) r rose h
+changes_inside old new k0 k1 (Rec list text) r count h = tells_inside old new k0 k1 (Rec list text) r count h
+changes_inside old new k0 k1 (Put generation name text) r count h = puts_inside old new k0 k1 generation (Put generation name text) r count h
+changes_inside old new k0 k1 (Drop floor) r count h = tells_inside old new k0 k1 (Drop floor) r count h
 
-pub changes_counted : (old new : FaultView) (after : LinkView) (k0 k1 : Known Item) (event : LogEvent) (r other : Result Unit LinkError) → new.inner ≡ after → other ≡ r → (HasFailed r → Rose old.faults new.faults)
-    → Changes old.inner after k0 k1 event r → Changes (link_of old) (link_of new) k0 k1 event other
-changes_counted old new after k0 k1 event r other inner same rose h =
-    subst (λ (x : Result Unit LinkError). Changes (link_of old) (link_of new) k0 k1 event x) (sym same)
-    (changes_inside old new k0 k1 event r rose (subst (λ (l : LinkView). Changes old.inner l k0 k1 event r) (sym inner) h))
+changes_failed : (old new : FaultView) (k0 k1 : Known Item) (event : LogEvent) (r : Result Unit LinkError) → new.faults ≡ faults_after old.faults r → r ≡ Err errors.Failed → Changes (link_of old) (link_of new) k0 k1 event r
+changes_failed old new k0 k1 event r count is =
+    subst (λ (x : Result Unit LinkError). Changes (link_of old) (link_of new) k0 k1 event x) (sym is) (by event (rose_is old.faults new.faults (count ∙ ap (λ (x : Result Unit LinkError). faults_after old.faults x) is)))
+  where
+    by : (event : LogEvent) → Rose old.faults new.faults → Changes (link_of old) (link_of new) k0 k1 event (Err errors.Failed)
+    by (Rec list text) rose = rose
+    by (Put generation name text) rose = rose
+    by (Drop floor) rose = rose
+
+changes_out_of_memory : (old new : FaultView) (k0 k1 : Known Item) (event : LogEvent) (r : Result Unit LinkError) → r ≡ Err errors.NoMemory → Changes (link_of old) (link_of new) k0 k1 event r
+changes_out_of_memory old new k0 k1 event r is = subst (λ (x : Result Unit LinkError). Changes (link_of old) (link_of new) k0 k1 event x) (sym is) (by event)
+  where
+    by : (event : LogEvent) → Changes (link_of old) (link_of new) k0 k1 event (Err errors.NoMemory)
+    by (Rec list text) = tt
+    by (Put generation name text) = tt
+    by (Drop floor) = tt
+
+-- what the fault makes of a change is what a link may make of it
+pub changes_shown : (fault : Fault) (old new : FaultView) (k0 k1 : Known Item) (event : LogEvent) (r : Result Unit LinkError) → ChangesBy fault old new k0 k1 event r → new.faults ≡ faults_after old.faults r
+    → Changes (link_of old) (link_of new) k0 k1 event r
+changes_shown faults.Pass old new k0 k1 event r h count = changes_inside old new k0 k1 event r count h
+changes_shown faults.Lose old new k0 k1 event r h count = changes_failed old new k0 k1 event r count h.0
+changes_shown faults.ActThenFail old new k0 k1 event r h count = changes_failed old new k0 k1 event r count h
+changes_shown faults.Repeat old new k0 k1 event r h count = changes_inside old new k0 k1 event r count h
+changes_shown (faults.Late after) old new k0 k1 event r h count = either h.0
+  where
+    either : ((r ≡ Err errors.Failed) ⊎ (r ≡ Err errors.NoMemory)) → Changes (link_of old) (link_of new) k0 k1 event r
+    either (inl is) = changes_failed old new k0 k1 event r count is
+    either (inr is) = changes_out_of_memory old new k0 k1 event r is
+changes_shown faults.Alter old new k0 k1 event r h count = changes_inside old new k0 k1 event r count h
+changes_shown faults.Gone old new k0 k1 event r h count = changes_inside old new k0 k1 event r count h
+
+-- a change is passed on under each of these faults
+pub passed : (fault : Fault) (old new : FaultView) (k0 k1 : Known Item) (event : LogEvent) (r : Result Unit LinkError) → fault ≡ due old → ((fault ≡ faults.Pass) ⊎ (fault ≡ faults.Alter) ⊎ (fault ≡ faults.Gone))
+    → Changes old.inner new.inner k0 k1 event r → ChangesBy (due old) old new k0 k1 event r
+passed fault old new k0 k1 event r is one h = subst (λ (f : Fault). ChangesBy f old new k0 k1 event r) is (by one)
+  where
+    by : ((fault ≡ faults.Pass) ⊎ (fault ≡ faults.Alter) ⊎ (fault ≡ faults.Gone)) → ChangesBy fault old new k0 k1 event r
+    by (inl e) = subst (λ (f : Fault). ChangesBy f old new k0 k1 event r) (sym e) h
+    by (inr (inl e)) = subst (λ (f : Fault). ChangesBy f old new k0 k1 event r) (sym e) h
+    by (inr (inr e)) = subst (λ (f : Fault). ChangesBy f old new k0 k1 event r) (sym e) h

@@ -2,14 +2,15 @@
 use Rattle.std.proofs.Common.{◌≡◌, ℕ, zero, suc, ◌≤◌, ◌&&◌, Bool, true, false, List, [], ◌∷◌, Option, Some, None, Result, Ok, Err, refl, sym, ap, ◌∙◌, subst, slice_index_or, length, arith}
 use Rattle.std.specs.List.{list_all}
 use Rattle.ms_base.specs.Counts.{Rose}
+use Rattle.ms_base.specs.Memory.{one_more}
 use Rattle.ms_base.specs.declared.names.Name.{Name}
 use Rattle.ms_fault.specs.declared.fault.Fault.{Fault}
 use Rattle.ms_fault.specs.declared.fault.Fault.TheVariants as faults
-use Rattle.ms_fault.specs.Faults.{FaultView, link_of, due, shows_kept, HasFailed, IsNext}
+use Rattle.ms_fault.specs.Faults.{FaultView, link_of, due, shows_kept, faults_after, HasBy, GetsBy}
 use Rattle.ms_ken.specs.Known.{Known}
 use Rattle.ms_link.specs.declared.fault.LinkError.{LinkError}
 use Rattle.ms_link.specs.declared.fault.LinkError.TheVariants as errors
-use Rattle.ms_link.specs.Links.{LinkView, IsStale, Has, Gets}
+use Rattle.ms_link.specs.Links.{LinkView, Stays, IsStale, Lists, Has, Gets}
 use Rattle.ms_record.specs.declared.item.Item.{Item}
 
 both_first : (a b : Bool) → (a && b) ≡ true → a ≡ true
@@ -31,47 +32,142 @@ due_shows f objects =
     let all = both_second f.inner.objects (list_all shows_kept f.script && shows_kept f.rest) objects in
     at_shows f.script f.rest f.at (both_first (list_all shows_kept f.script) (shows_kept f.rest) all) (both_second (list_all shows_kept f.script) (shows_kept f.rest) all)
 
+-- ---- the answers of the link inside, seen from an earlier moment
+
 later_link : LinkView → ℕ → LinkView
 later_link link faults = record link { faults = faults }
 
-rose_met : (a b c : ℕ) → b ≡ a → Rose b c → Rose a c
-rose_met a b c e h = subst (λ (n : ℕ). Rose n c) e h
+rose_before : (a b c : ℕ) → a ≤ b → Rose b c → Rose a c
+rose_before a b c le rose = grind arith
 
-stale_of : (f : FaultView) (count : ℕ) (after : Known Item) (generation floor : ℕ) → IsStale (later_link f.inner count) after generation floor → IsStale (link_of f) after generation floor
+stale_before : (link : LinkView) (faults : ℕ) (after : Known Item) (generation floor : ℕ) → IsStale (later_link link faults) after generation floor → IsStale link after generation floor
 unfolding later_link
-stale_of f count after generation floor h = record { below = h.below; dropped = h.dropped; greatest = h.greatest }
+stale_before link faults after generation floor h = record { below = h.below; dropped = h.dropped; greatest = h.greatest }
 
-has_of : (old met new : FaultView) (asked : LinkView) (count : ℕ) (after : Known Item) (generation : ℕ) (name : Name) (r : Result Bool LinkError) → met.faults ≡ old.faults → (HasFailed r → Rose met.faults new.faults)
-    → Has (later_link old.inner count) asked after generation name r → Has (link_of old) (link_of new) after generation name r
+lists_before : (link after : LinkView) (faults : ℕ) (known : Known Item) (list from : ℕ) (r : Result (List (List ℕ)) LinkError) → link.faults ≤ faults → Lists (later_link link faults) after known list from r → Lists link after known list from r
 unfolding later_link
-has_of old met new asked count after generation name (Ok true) same rose h = λ lists. h lists
-has_of old met new asked count after generation name (Ok false) same rose h = λ lists objects. h lists (both_first old.inner.objects _ objects)
-has_of old met new asked count after generation name (Err errors.Failed) same rose h = rose_met old.faults met.faults new.faults same (rose tt)
-has_of old met new asked count after generation name (Err (errors.Stale floor)) same rose h = stale_of old count after generation floor h
-has_of old met new asked count after generation name (Err errors.NoMemory) same rose h = tt
+lists_before link after faults known list from (Ok texts) le h = λ lists. h lists
+lists_before link after faults known list from (Err errors.Failed) le h = rose_before link.faults faults after.faults le h
+lists_before link after faults known list from (Err (errors.Stale floor)) le h = h
+lists_before link after faults known list from (Err errors.NoMemory) le h = tt
 
-pub has_counted : (old met new : FaultView) (inner asked : LinkView) (after : Known Item) (generation : ℕ) (name : Name) (r other : Result Bool LinkError) → IsNext old met → met.faults ≡ old.faults → inner ≡ met.inner → other ≡ r
-    → (HasFailed r → Rose met.faults new.faults) → Has inner asked after generation name r → Has (link_of old) (link_of new) after generation name other
+pub lists_later : (link later after : LinkView) (known : Known Item) (list from : ℕ) (r : Result (List (List ℕ)) LinkError) → Stays link later → Lists later after known list from r → Lists link after known list from r
 unfolding later_link
-has_counted old met new inner asked after generation name r other next same is equal rose h =
-    subst (λ (x : Result Bool LinkError). Has (link_of old) (link_of new) after generation name x) (sym equal)
-    (has_of old met new asked met.inner.faults after generation name r same rose (subst (λ (l : LinkView). Has l asked after generation name r) (is ∙ next.inner.same) h))
+lists_later link later after known list from r stays h = lists_before link after later.faults known list from r stays.later (subst (λ (l : LinkView). Lists l after known list from r) stays.same h)
 
-gets_of : (old met new : FaultView) (asked : LinkView) (count : ℕ) (after : Known Item) (generation : ℕ) (name : Name) (r : Result (Option (List ℕ)) LinkError) → met.faults ≡ old.faults → (HasFailed r → Rose met.faults new.faults)
-    → Gets (later_link old.inner count) asked after generation name r → Gets (link_of old) (link_of new) after generation name r
+has_before : (link after : LinkView) (faults : ℕ) (known : Known Item) (generation : ℕ) (name : Name) (r : Result Bool LinkError) → link.faults ≤ faults → Has (later_link link faults) after known generation name r → Has link after known generation name r
 unfolding later_link
-gets_of old met new asked count after generation name (Ok None) same rose h = λ lists objects. h lists (both_first old.inner.objects _ objects)
-gets_of old met new asked count after generation name (Ok (Some text)) same rose h = λ lists objects. h lists (both_first old.inner.objects _ objects)
-gets_of old met new asked count after generation name (Err errors.Failed) same rose h = rose_met old.faults met.faults new.faults same (rose tt)
-gets_of old met new asked count after generation name (Err (errors.Stale floor)) same rose h = stale_of old count after generation floor h
-gets_of old met new asked count after generation name (Err errors.NoMemory) same rose h = tt
+has_before link after faults known generation name (Ok true) le h = λ lists. h lists
+has_before link after faults known generation name (Ok false) le h = λ lists objects. h lists objects
+has_before link after faults known generation name (Err errors.Failed) le h = rose_before link.faults faults after.faults le h
+has_before link after faults known generation name (Err (errors.Stale floor)) le h = stale_before link faults known generation floor h
+has_before link after faults known generation name (Err errors.NoMemory) le h = tt
 
-pub gets_counted : (old met new : FaultView) (inner asked : LinkView) (after : Known Item) (generation : ℕ) (name : Name) (r other : Result (Option (List ℕ)) LinkError) → IsNext old met → met.faults ≡ old.faults → inner ≡ met.inner → other ≡ r
-    → (HasFailed r → Rose met.faults new.faults) → Gets inner asked after generation name r → Gets (link_of old) (link_of new) after generation name other
+pub has_later : (link later after : LinkView) (known : Known Item) (generation : ℕ) (name : Name) (r : Result Bool LinkError) → Stays link later → Has later after known generation name r → Has link after known generation name r
 unfolding later_link
-gets_counted old met new inner asked after generation name r other next same is equal rose h =
-    subst (λ (x : Result (Option (List ℕ)) LinkError). Gets (link_of old) (link_of new) after generation name x) (sym equal)
-    (gets_of old met new asked met.inner.faults after generation name r same rose (subst (λ (l : LinkView). Gets l asked after generation name r) (is ∙ next.inner.same) h))
+has_later link later after known generation name r stays h = has_before link after later.faults known generation name r stays.later (subst (λ (l : LinkView). Has l after known generation name r) stays.same h)
+
+gets_before : (link after : LinkView) (faults : ℕ) (known : Known Item) (generation : ℕ) (name : Name) (r : Result (Option (List ℕ)) LinkError) → link.faults ≤ faults → Gets (later_link link faults) after known generation name r
+    → Gets link after known generation name r
+unfolding later_link
+gets_before link after faults known generation name (Ok None) le h = λ lists objects. h lists objects
+gets_before link after faults known generation name (Ok (Some text)) le h = λ lists objects. h lists objects
+gets_before link after faults known generation name (Err errors.Failed) le h = rose_before link.faults faults after.faults le h
+gets_before link after faults known generation name (Err (errors.Stale floor)) le h = stale_before link faults known generation floor h
+gets_before link after faults known generation name (Err errors.NoMemory) le h = tt
+
+pub gets_later : (link later after : LinkView) (known : Known Item) (generation : ℕ) (name : Name) (r : Result (Option (List ℕ)) LinkError) → Stays link later → Gets later after known generation name r → Gets link after known generation name r
+unfolding later_link
+gets_later link later after known generation name r stays h = gets_before link after later.faults known generation name r stays.later (subst (λ (l : LinkView). Gets l after known generation name r) stays.same h)
+
+-- ---- the answers of the link inside, as the link's with faults
+
+rose_is : (a b : ℕ) → b ≡ one_more a → Rose a b
+rose_is a b is = grind arith
+
+stale_inside : (f : FaultView) (after : Known Item) (generation floor : ℕ) → IsStale f.inner after generation floor → IsStale (link_of f) after generation floor
+stale_inside f after generation floor h = record { below = h.below; dropped = h.dropped; greatest = h.greatest }
+
+pub lists_inside : (old new : FaultView) (known : Known Item) (list from : ℕ) (r : Result (List (List ℕ)) LinkError) → new.faults ≡ faults_after old.faults r → Lists old.inner new.inner known list from r → Lists (link_of old) (link_of new) known list from r
+lists_inside old new known list from (Ok texts) count h = λ lists. h lists
+lists_inside old new known list from (Err errors.Failed) count h = rose_is old.faults new.faults count
+lists_inside old new known list from (Err (errors.Stale floor)) count h = h
+lists_inside old new known list from (Err errors.NoMemory) count h = tt
+
+pub has_inside : (old new : FaultView) (known : Known Item) (generation : ℕ) (name : Name) (r : Result Bool LinkError) → new.faults ≡ faults_after old.faults r → Has old.inner new.inner known generation name r
+    → Has (link_of old) (link_of new) known generation name r
+has_inside old new known generation name (Ok true) count h = λ lists. h lists
+has_inside old new known generation name (Ok false) count h = λ lists objects. h lists (both_first old.inner.objects _ objects)
+has_inside old new known generation name (Err errors.Failed) count h = rose_is old.faults new.faults count
+has_inside old new known generation name (Err (errors.Stale floor)) count h = stale_inside old known generation floor h
+has_inside old new known generation name (Err errors.NoMemory) count h = tt
+
+pub gets_inside : (old new : FaultView) (known : Known Item) (generation : ℕ) (name : Name) (r : Result (Option (List ℕ)) LinkError) → new.faults ≡ faults_after old.faults r → Gets old.inner new.inner known generation name r
+    → Gets (link_of old) (link_of new) known generation name r
+gets_inside old new known generation name (Ok None) count h = λ lists objects. h lists (both_first old.inner.objects _ objects)
+gets_inside old new known generation name (Ok (Some text)) count h = λ lists objects. h lists (both_first old.inner.objects _ objects)
+gets_inside old new known generation name (Err errors.Failed) count h = rose_is old.faults new.faults count
+gets_inside old new known generation name (Err (errors.Stale floor)) count h = stale_inside old known generation floor h
+gets_inside old new known generation name (Err errors.NoMemory) count h = tt
+
+-- ---- a call that was passed on and counted
+
+counted_on : {A : Type 0} (inside met old now : ℕ) (r other : Result A LinkError) → now ≡ faults_after inside r → inside ≡ met → met ≡ old → other ≡ r → now ≡ faults_after old other
+counted_on {A} inside met old now r other count one two same = count ∙ ap (λ (n : ℕ). faults_after n r) (one ∙ two) ∙ ap (λ (x : Result A LinkError). faults_after old x) (sym same)
+
+pub has_asked : (old met new : FaultView) (inside asked : LinkView) (known : Known Item) (generation : ℕ) (name : Name) (r other : Result Bool LinkError) → Stays old.inner met.inner → inside ≡ met.inner → new.inner ≡ asked → other ≡ r
+    → Has inside asked known generation name r → Has old.inner new.inner known generation name other
+has_asked old met new inside asked known generation name r other stays before after same h =
+    has_later old.inner met.inner new.inner known generation name other stays
+    (subst (λ (l : LinkView). Has l new.inner known generation name other) before
+    (subst (λ (l : LinkView). Has inside l known generation name other) (sym after) (subst (λ (x : Result Bool LinkError). Has inside asked known generation name x) (sym same) h)))
+
+pub has_counted : (old met new : FaultView) (inside : ℕ) (known : Known Item) (generation : ℕ) (name : Name) (r other : Result Bool LinkError) → new.faults ≡ faults_after inside r → inside ≡ met.faults → met.faults ≡ old.faults → other ≡ r
+    → Has old.inner new.inner known generation name other → Has (link_of old) (link_of new) known generation name other
+has_counted old met new inside known generation name r other count one two same h =
+    has_inside old new known generation name other (counted_on inside met.faults old.faults new.faults r other count one two same) h
+
+pub has_passed : (fault : Fault) (old new : FaultView) (k0 k1 : Known Item) (generation : ℕ) (name : Name) (r : Result Bool LinkError) → fault ≡ due old → (fault ≡ faults.Lose → ⊥) → (fault ≡ faults.ActThenFail → ⊥) → (fault ≡ faults.Gone → ⊥)
+    → Has old.inner new.inner k1 generation name r → HasBy (due old) old new k0 k1 generation name r
+has_passed fault old new k0 k1 generation name r is lose act gone h = subst (λ (f : Fault). HasBy f old new k0 k1 generation name r) is (by fault lose act gone)
+  where
+    by : (fault : Fault) → (fault ≡ faults.Lose → ⊥) → (fault ≡ faults.ActThenFail → ⊥) → (fault ≡ faults.Gone → ⊥) → HasBy fault old new k0 k1 generation name r
+    by faults.Pass lose act gone = h
+    by faults.Lose lose act gone = absurd (lose refl)
+    by faults.ActThenFail lose act gone = absurd (act refl)
+    by faults.Repeat lose act gone = h
+    by (faults.Late after) lose act gone = h
+    by faults.Alter lose act gone = h
+    by faults.Gone lose act gone = absurd (gone refl)
+
+pub gets_asked : (old met new : FaultView) (inside asked : LinkView) (known : Known Item) (generation : ℕ) (name : Name) (r other : Result (Option (List ℕ)) LinkError) → Stays old.inner met.inner → inside ≡ met.inner → new.inner ≡ asked → other ≡ r
+    → Gets inside asked known generation name r → Gets old.inner new.inner known generation name other
+gets_asked old met new inside asked known generation name r other stays before after same h =
+    gets_later old.inner met.inner new.inner known generation name other stays
+    (subst (λ (l : LinkView). Gets l new.inner known generation name other) before
+    (subst (λ (l : LinkView). Gets inside l known generation name other) (sym after) (subst (λ (x : Result (Option (List ℕ)) LinkError). Gets inside asked known generation name x) (sym same) h)))
+
+pub gets_counted : (old met new : FaultView) (inside : ℕ) (known : Known Item) (generation : ℕ) (name : Name) (r other : Result (Option (List ℕ)) LinkError) → new.faults ≡ faults_after inside r → inside ≡ met.faults → met.faults ≡ old.faults → other ≡ r
+    → Gets old.inner new.inner known generation name other → Gets (link_of old) (link_of new) known generation name other
+gets_counted old met new inside known generation name r other count one two same h =
+    gets_inside old new known generation name other (counted_on inside met.faults old.faults new.faults r other count one two same) h
+
+pub gets_passed : (fault : Fault) (old new : FaultView) (k0 k1 : Known Item) (generation : ℕ) (name : Name) (r : Result (Option (List ℕ)) LinkError) → fault ≡ due old → (fault ≡ faults.Lose → ⊥) → (fault ≡ faults.ActThenFail → ⊥) → (fault ≡ faults.Alter → ⊥)
+    → (fault ≡ faults.Gone → ⊥) → Gets old.inner new.inner k1 generation name r → GetsBy (due old) old new k0 k1 generation name r
+gets_passed fault old new k0 k1 generation name r is lose act alter gone h = subst (λ (f : Fault). GetsBy f old new k0 k1 generation name r) is (by fault lose act alter gone)
+  where
+    by : (fault : Fault) → (fault ≡ faults.Lose → ⊥) → (fault ≡ faults.ActThenFail → ⊥) → (fault ≡ faults.Alter → ⊥) → (fault ≡ faults.Gone → ⊥) → GetsBy fault old new k0 k1 generation name r
+    by faults.Pass lose act alter gone = h
+    by faults.Lose lose act alter gone = absurd (lose refl)
+    by faults.ActThenFail lose act alter gone = absurd (act refl)
+    by faults.Repeat lose act alter gone = h
+    by (faults.Late after) lose act alter gone = h
+    by faults.Alter lose act alter gone = absurd (alter refl)
+    by faults.Gone lose act alter gone = absurd (gone refl)
+
+pub gets_altered : (fault : Fault) (old new : FaultView) (k0 k1 : Known Item) (generation : ℕ) (name : Name) (e : LinkError) → fault ≡ faults.Alter → fault ≡ due old → Gets old.inner new.inner k1 generation name (Err e)
+    → GetsBy (due old) old new k0 k1 generation name (Err e)
+gets_altered fault old new k0 k1 generation name e alter is h = subst (λ (f : Fault). GetsBy f old new k0 k1 generation name (Err e)) (sym alter ∙ is) h
 
 -- an altered text is handed out only where the objects are not told
 pub alter_hides : {P : Type 0} (f : FaultView) → due f ≡ faults.Alter → (link_of f).objects ≡ true → P

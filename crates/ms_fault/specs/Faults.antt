@@ -1,8 +1,8 @@
 -- Scripts of faults, and what each fault does to a call.
 use Rattle.std.specs.Prelude.{◌≡◌, ℕ, ◌+◌, ◌≤◌, ◌&&◌, Bool, true, false, List, [], ◌∷◌, ◌++◌, length, min, bit_xor, Option, Some, None, Result, Ok, Err, ◌⊎◌, slice_index_or}
 use Rattle.std.specs.List.{list_all}
-use Rattle.ms_base.specs.Counts.{Rose}
 use Rattle.ms_base.specs.declared.names.Name.{Name}
+use Rattle.ms_fault.specs.Changes.{Changes}
 use Rattle.ms_fault.specs.declared.fault.Fault.{Fault}
 use Rattle.ms_fault.specs.declared.fault.Fault.TheVariants as faults
 use Rattle.ms_base.specs.Memory.{one_more}
@@ -11,7 +11,7 @@ use Rattle.ms_fault.specs.Late.{waiting, sent_late}
 use Rattle.ms_ken.specs.Known.{Known}
 use Rattle.ms_link.specs.declared.fault.LinkError.{LinkError}
 use Rattle.ms_link.specs.declared.fault.LinkError.TheVariants as errors
-use Rattle.ms_link.specs.Links.{LinkView, Stays, WhereKept, IsAbsent, IsKept, log_known}
+use Rattle.ms_link.specs.Links.{LinkView, Stays, WhereKept, IsKept, Lists, Has, Gets, log_known}
 use Rattle.ms_record.specs.declared.item.Item.{Item}
 use Rattle.ms_record.specs.declared.log.LogEvent.{LogEvent}
 
@@ -63,57 +63,56 @@ abbrev pub LateBy : Fault → FaultView → FaultView → Known Item → LogEven
 LateBy (faults.Late later) old new before event (Err errors.Failed) = new.late ≡ still_late old ++ sent_late new.calls before event later ∷ []
 LateBy _ old new before event result = new.late ≡ still_late old
 
--- the call was made of the link inside; whose faults are next stays
+-- a call of the link inside was made, and nothing else changed
+pub record IsActed (old new : FaultView) : Type 0 where
+  pub inner : Stays old.inner new.inner
+  pub same : new ≡ record old { inner = new.inner }
+
+-- a call of the link inside was made and counted
 pub record IsCalled (old new : FaultView) : Type 0 where
   pub inner : Stays old.inner new.inner
   pub same : new ≡ record old { inner = new.inner; faults = new.faults }
   pub later : old.faults ≤ new.faults
 
-abbrev pub HasFailed : {A : Type 0} → Result A LinkError → Type 0
-HasFailed (Ok a) = ⊥
-HasFailed (Err errors.Failed) = Unit {0}
-HasFailed (Err (errors.Stale floor)) = ⊥
-HasFailed (Err errors.NoMemory) = ⊥
+-- the count of faults after this answer: one more after `Failed`
+abbrev pub faults_after : {A : Type 0} → ℕ → Result A LinkError → ℕ
+faults_after n (Ok a) = n
+faults_after n (Err errors.Failed) = one_more n
+faults_after n (Err (errors.Stale floor)) = n
+faults_after n (Err errors.NoMemory) = n
 
--- a call that is passed on fails only where the link inside does
-abbrev pub FailsInside : {A : Type 0} → FaultView → FaultView → Result A LinkError → Type 0
-FailsInside old new (Ok a) = Unit {0}
-FailsInside old new (Err errors.Failed) = Rose old.inner.faults new.inner.faults
-FailsInside old new (Err (errors.Stale floor)) = Unit {0}
-FailsInside old new (Err errors.NoMemory) = Unit {0}
+-- a change under this fault: it fails, or it is answered as the link inside does
+abbrev pub ChangesBy : Fault → FaultView → FaultView → Known Item → Known Item → LogEvent → Result Unit LinkError → Type 0
+ChangesBy faults.Lose old new before after event result = (result ≡ Err errors.Failed) × (after ≡ before)
+ChangesBy faults.ActThenFail old new before after event result = result ≡ Err errors.Failed
+ChangesBy (faults.Late later) old new before after event result = ((result ≡ Err errors.Failed) ⊎ (result ≡ Err errors.NoMemory)) × (after ≡ before)
+ChangesBy _ old new before after event result = Changes old.inner new.inner before after event result
 
--- a change under this fault
-abbrev pub ChangesBy : Fault → FaultView → FaultView → Known Item → Known Item → Result Unit LinkError → Type 0
-ChangesBy faults.Lose old new before after result = (result ≡ Err errors.Failed) × (after ≡ before)
-ChangesBy faults.ActThenFail old new before after result = result ≡ Err errors.Failed
-ChangesBy (faults.Late later) old new before after result = ((result ≡ Err errors.Failed) ⊎ (result ≡ Err errors.NoMemory)) × (after ≡ before)
-ChangesBy _ old new before after result = FailsInside old new result
+-- a call that reads, under this fault: it fails, or it is answered as the link inside does
+abbrev pub ReadsBy : {A : Type 0} → Fault → Type 0 → Known Item → Known Item → Result A LinkError → Type 0
+ReadsBy faults.Lose Inside before after result = (result ≡ Err errors.Failed) × (after ≡ before)
+ReadsBy faults.ActThenFail Inside before after result = result ≡ Err errors.Failed
+ReadsBy _ Inside before after result = Inside
 
--- a call that reads, under this fault
-abbrev pub ReadsBy : {A : Type 0} → Fault → FaultView → FaultView → Known Item → Known Item → Result A LinkError → Type 0
-ReadsBy faults.Lose old new before after result = (result ≡ Err errors.Failed) × (after ≡ before)
-ReadsBy faults.ActThenFail old new before after result = result ≡ Err errors.Failed
-ReadsBy _ old new before after result = FailsInside old new result
+abbrev pub ListsBy : Fault → FaultView → FaultView → Known Item → Known Item → ℕ → ℕ → Result (List (List ℕ)) LinkError → Type 0
+ListsBy fault old new before after list from result = ReadsBy fault (Lists old.inner new.inner after list from result) before after result
 
-abbrev pub HasBy : Fault → FaultView → FaultView → Known Item → Known Item → Result Bool LinkError → Type 0
-HasBy faults.Gone old new before after result = (result ≡ Ok false) × (after ≡ before)
-HasBy fault old new before after result = ReadsBy fault old new before after result
+abbrev pub HasBy : Fault → FaultView → FaultView → Known Item → Known Item → ℕ → Name → Result Bool LinkError → Type 0
+HasBy faults.Gone old new before after generation name result = (result ≡ Ok false) × (after ≡ before)
+HasBy fault old new before after generation name result = ReadsBy fault (Has old.inner new.inner after generation name result) before after result
 
 -- the lowest bit of the last byte is flipped; an empty text becomes one zero byte
 abbrev pub IsAltered : List ℕ → List ℕ → Type 0
 IsAltered text other =
     ((text ≡ []) × (other ≡ 0 ∷ [])) ⊎ ((front : List ℕ) × (last : ℕ) × (text ≡ front ++ last ∷ []) × (other ≡ front ++ bit_xor last 1 ∷ []))
 
--- where the link inside tells its objects: nothing is kept, or what is handed out is a kept text, altered
-abbrev pub AltersKept : LinkView → Known Item → ℕ → Name → Option (List ℕ) → Type 0
-AltersKept inner after generation name None = WhereKept inner (IsAbsent (log_known inner after) generation name)
-AltersKept inner after generation name (Some other) = WhereKept inner ((text : List ℕ) × IsKept (log_known inner after) generation name text × IsAltered text other)
-
+-- as the link inside answers, but for the text: where that link tells its objects, it is a kept one, altered
 abbrev pub AltersBy : FaultView → FaultView → Known Item → ℕ → Name → Result (Option (List ℕ)) LinkError → Type 0
-AltersBy old new after generation name (Ok found) = AltersKept old.inner after generation name found
-AltersBy old new after generation name (Err e) = FailsInside {A = Option (List ℕ)} old new (Err e)
+AltersBy old new after generation name (Ok (Some other)) = WhereKept old.inner ((text : List ℕ) × IsKept (log_known old.inner after) generation name text × IsAltered text other)
+AltersBy old new after generation name (Ok None) = Gets old.inner new.inner after generation name (Ok None)
+AltersBy old new after generation name (Err e) = Gets old.inner new.inner after generation name (Err e)
 
 abbrev pub GetsBy : Fault → FaultView → FaultView → Known Item → Known Item → ℕ → Name → Result (Option (List ℕ)) LinkError → Type 0
 GetsBy faults.Gone old new before after generation name result = (result ≡ Ok None) × (after ≡ before)
 GetsBy faults.Alter old new before after generation name result = AltersBy old new after generation name result
-GetsBy fault old new before after generation name result = ReadsBy fault old new before after result
+GetsBy fault old new before after generation name result = ReadsBy fault (Gets old.inner new.inner after generation name result) before after result

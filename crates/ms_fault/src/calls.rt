@@ -2,7 +2,7 @@
 
 ghost use Rattle.std.specs.Prelude.{◌≡◌, ◌≤◌, length};
 ghost use Rattle.ms_core.specs.Views.{IsClosed};
-ghost use Rattle.ms_fault.specs.Faults.{due, link_of, still_late, ChangesBy, LateBy, ReadsBy, HasBy, GetsBy, IsNext};
+ghost use Rattle.ms_fault.specs.Faults.{due, link_of, still_late, faults_after, ChangesBy, LateBy, ListsBy, HasBy, GetsBy, IsNext};
 ghost use Rattle.ms_ken.specs.Lists.{MayFollow};
 ghost use Rattle.ms_link.specs.Links.{IsOnBoard, Stays, Learns, Tells, Puts, Lists, Has, Gets};
 ghost use Rattle.ms_record.specs.declared.item.Item.TheVariants.{Log};
@@ -43,7 +43,8 @@ impl<L: Link<FoldClosed>> Link<FoldClosed> for FaultLink<L> {
         ensures tells { Tells (link_of self.old) (link_of self.new) pass.old pass.new (Rec list text.now) result }
         ensures link { Stays (link_of self.old) (link_of self.new) }
         ensures pass { Learns pass.old pass.new }
-        ensures script { ChangesBy (due self.old) self.old self.new pass.old pass.new result }
+        ensures script { ChangesBy (due self.old) self.old self.new pass.old pass.new (Rec list text.now) result }
+        ensures counts { self.new.faults ≡ faults_after self.old.faults result }
         ensures late { LateBy (due self.old) self.old self.new pass.old (Rec list text.now) result }
         ensures next { IsNext self.old self.new }
     {
@@ -62,7 +63,8 @@ impl<L: Link<FoldClosed>> Link<FoldClosed> for FaultLink<L> {
         ensures lists { Lists (link_of self.old) (link_of self.new) pass.new list.0 from result }
         ensures link { Stays (link_of self.old) (link_of self.new) }
         ensures pass { Learns pass.old pass.new }
-        ensures script { ReadsBy (due self.old) self.old self.new pass.old pass.new result }
+        ensures script { ListsBy (due self.old) self.old self.new pass.old pass.new list.0 from result }
+        ensures counts { self.new.faults ≡ faults_after self.old.faults result }
         ensures late { self.new.late ≡ still_late self.old }
         ensures next { IsNext self.old self.new }
     {
@@ -94,7 +96,8 @@ impl<L: Link<FoldClosed>> Link<FoldClosed> for FaultLink<L> {
         ensures puts { Puts (link_of self.old) (link_of self.new) pass.old pass.new generation (Stored generation name.now text.now) result }
         ensures link { Stays (link_of self.old) (link_of self.new) }
         ensures pass { Learns pass.old pass.new }
-        ensures script { ChangesBy (due self.old) self.old self.new pass.old pass.new result }
+        ensures script { ChangesBy (due self.old) self.old self.new pass.old pass.new (Stored generation name.now text.now) result }
+        ensures counts { self.new.faults ≡ faults_after self.old.faults result }
         ensures late { LateBy (due self.old) self.old self.new pass.old (Stored generation name.now text.now) result }
         ensures next { IsNext self.old self.new }
     {
@@ -118,7 +121,8 @@ impl<L: Link<FoldClosed>> Link<FoldClosed> for FaultLink<L> {
         ensures has { Has (link_of self.old) (link_of self.new) pass.new generation name.now result }
         ensures link { Stays (link_of self.old) (link_of self.new) }
         ensures pass { Learns pass.old pass.new }
-        ensures script { HasBy (due self.old) self.old self.new pass.old pass.new result }
+        ensures script { HasBy (due self.old) self.old self.new pass.old pass.new generation name.now result }
+        ensures counts { self.new.faults ≡ faults_after self.old.faults result }
         ensures late { self.new.late ≡ still_late self.old }
         ensures next { IsNext self.old self.new }
     {
@@ -149,6 +153,7 @@ impl<L: Link<FoldClosed>> Link<FoldClosed> for FaultLink<L> {
         ensures link { Stays (link_of self.old) (link_of self.new) }
         ensures pass { Learns pass.old pass.new }
         ensures script { GetsBy (due self.old) self.old self.new pass.old pass.new generation name.now result }
+        ensures counts { self.new.faults ≡ faults_after self.old.faults result }
         ensures late { self.new.late ≡ still_late self.old }
         ensures next { IsNext self.old self.new }
     {
@@ -186,7 +191,8 @@ impl<L: Link<FoldClosed>> Link<FoldClosed> for FaultLink<L> {
         ensures tells { Tells (link_of self.old) (link_of self.new) pass.old pass.new (Dropped generation) result }
         ensures link { Stays (link_of self.old) (link_of self.new) }
         ensures pass { Learns pass.old pass.new }
-        ensures script { ChangesBy (due self.old) self.old self.new pass.old pass.new result }
+        ensures script { ChangesBy (due self.old) self.old self.new pass.old pass.new (Dropped generation) result }
+        ensures counts { self.new.faults ≡ faults_after self.old.faults result }
         ensures late { LateBy (due self.old) self.old self.new pass.old (Dropped generation) result }
         ensures next { IsNext self.old self.new }
     {

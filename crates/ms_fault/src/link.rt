@@ -1,10 +1,10 @@
 //! A link whose calls meet the faults of a script.
 
 ghost use Rattle.std.specs.Prelude.{◌≡◌, ◌≤◌, ◌⊎◌, ◌++◌, ◌∷◌, [], OnOk, OnErr, length};
-ghost use Rattle.ms_base.specs.Counts.{Causes, Rose};
+ghost use Rattle.ms_base.specs.Memory.{one_more};
 ghost use Rattle.ms_core.specs.Views.{IsClosed};
 ghost use Rattle.ms_fault.specs.Changes.{event_of, size_of, Changes};
-ghost use Rattle.ms_fault.specs.Faults.{due, link_of, still_late, HasFailed, IsCalled, IsNext, FailsInside, ChangesBy, LateBy};
+ghost use Rattle.ms_fault.specs.Faults.{due, link_of, still_late, faults_after, IsActed, IsCalled, IsNext, ChangesBy, LateBy};
 ghost use Rattle.ms_fault.specs.Late.{sent_late};
 ghost use Rattle.ms_ken.specs.Lists.{MayFollow};
 ghost use Rattle.ms_link.specs.declared.fault.LinkError.TheVariants as errors;
@@ -84,7 +84,8 @@ impl<L: Link<FoldClosed>> FaultLink<L> {
     pub(crate) fn fail(&mut self) -> LinkError
         ensures fault { result ≡ errors.Failed }
         ensures same { self.new ≡ record self.old { faults = self.new.faults } }
-        ensures count { Causes (Unit {0}) self.old.faults self.new.faults }
+        ensures count { self.new.faults ≡ one_more self.old.faults }
+        ensures later { self.old.faults ≤ self.new.faults }
     {
         self.faults = self.faults.saturating_add(1);
         LinkError::Failed
@@ -94,12 +95,24 @@ impl<L: Link<FoldClosed>> FaultLink<L> {
     pub(crate) fn counted<T>(&mut self, answer: Result<T, LinkError>) -> Result<T, LinkError>
         ensures answer { result ≡ answer }
         ensures same { self.new ≡ record self.old { faults = self.new.faults } }
-        ensures count { Causes (HasFailed answer) self.old.faults self.new.faults }
+        ensures count { self.new.faults ≡ faults_after self.old.faults answer }
+        ensures later { self.old.faults ≤ self.new.faults }
     {
         if let Err(LinkError::Failed) = answer {
             self.faults = self.faults.saturating_add(1);
         }
         answer
+    }
+
+    /// The change is done, and its answer is not looked at.
+    fn act(&mut self, alloc: Global, board: &Common, pass: &mut Know, change: Change)
+        requires board { IsOnBoard self.old.inner board.now pass.old }
+        requires short { size_of (event_of change) ≤ MOST_OBJECT }
+        requires closed { MayFollow IsClosed self.old.inner.board.words pass.old.lists self.old.inner.service (Log (event_of change)) }
+        ensures acted { IsActed self.old self.new }
+        ensures pass { Learns pass.old pass.new }
+    {
+        let _ = send(&mut self.inner, alloc, board, pass, change);
     }
 
     /// The change is passed on.
@@ -113,33 +126,13 @@ impl<L: Link<FoldClosed>> FaultLink<L> {
         requires board { IsOnBoard self.old.inner board.now pass.old }
         requires short { size_of (event_of change) ≤ MOST_OBJECT }
         requires closed { MayFollow IsClosed self.old.inner.board.words pass.old.lists self.old.inner.service (Log (event_of change)) }
-        ensures changes { Changes (link_of self.old) (link_of self.new) pass.old pass.new (event_of change.entry) result }
-        ensures inside { FailsInside self.old self.new result }
+        ensures changes { Changes self.old.inner self.new.inner pass.old pass.new (event_of change.entry) result }
+        ensures counts { self.new.faults ≡ faults_after self.old.faults result }
         ensures call { IsCalled self.old self.new }
         ensures pass { Learns pass.old pass.new }
     {
         let answer = send(&mut self.inner, alloc, board, pass, change);
         self.counted(answer)
-    }
-
-    /// The change is done, and the answer is lost.
-    fn act_then_fail(
-        &mut self,
-        alloc: Global,
-        board: &Common,
-        pass: &mut Know,
-        change: Change,
-    ) -> LinkError
-        requires board { IsOnBoard self.old.inner board.now pass.old }
-        requires short { size_of (event_of change) ≤ MOST_OBJECT }
-        requires closed { MayFollow IsClosed self.old.inner.board.words pass.old.lists self.old.inner.service (Log (event_of change)) }
-        ensures fault { result ≡ errors.Failed }
-        ensures rose { Rose self.old.faults self.new.faults }
-        ensures call { IsCalled self.old self.new }
-        ensures pass { Learns pass.old pass.new }
-    {
-        let _ = send(&mut self.inner, alloc, board, pass, change);
-        self.fail()
     }
 
     /// The change is kept with what the caller knows, to be done later, and the answer is lost.
@@ -155,8 +148,7 @@ impl<L: Link<FoldClosed>> FaultLink<L> {
         requires short { size_of (event_of change) ≤ MOST_OBJECT }
         requires closed { MayFollow IsClosed self.old.inner.board.words pass.old.lists self.old.inner.service (Log (event_of change)) }
         ensures fault { (result ≡ errors.Failed) ⊎ (result ≡ errors.NoMemory) }
-        ensures rose { result ≡ errors.Failed → Rose self.old.faults self.new.faults }
-        ensures waits { result ≡ errors.Failed → self.new ≡ record self.old { late = self.old.late ++ sent_late self.old.calls pass.old (event_of change.entry) after ∷ []; faults = self.new.faults } }
+        ensures waits { result ≡ errors.Failed → self.new ≡ record self.old { late = self.old.late ++ sent_late self.old.calls pass.old (event_of change.entry) after ∷ []; faults = one_more self.old.faults } }
         ensures lost { result ≡ errors.NoMemory → self.new ≡ self.old }
         ensures later { self.old.faults ≤ self.new.faults }
         ensures pass { pass.new ≡ pass.old }
@@ -203,20 +195,22 @@ impl<L: Link<FoldClosed>> FaultLink<L> {
         requires board { IsOnBoard (link_of self.old) board.now pass.old }
         requires short { size_of (event_of change) ≤ MOST_OBJECT }
         requires closed { MayFollow IsClosed (link_of self.old).board.words pass.old.lists (link_of self.old).service (Log (event_of change)) }
-        ensures changes { Changes (link_of self.old) (link_of self.new) pass.old pass.new (event_of change.entry) result }
-        ensures script { ChangesBy (due self.old) self.old self.new pass.old pass.new result }
+        ensures script { ChangesBy (due self.old) self.old self.new pass.old pass.new (event_of change.entry) result }
+        ensures counts { self.new.faults ≡ faults_after self.old.faults result }
+        ensures later { self.old.faults ≤ self.new.faults }
         ensures late { LateBy (due self.old) self.old self.new pass.old (event_of change.entry) result }
         ensures next { IsNext self.old self.new }
-        ensures later { self.old.faults ≤ self.new.faults }
         ensures pass { Learns pass.old pass.new }
     {
-        let fault = self.meet(alloc, board);
-        match fault {
+        match self.meet(alloc, board) {
             Fault::Lose => Err(self.fail()),
-            Fault::ActThenFail => Err(self.act_then_fail(alloc, board, pass, change)),
+            Fault::ActThenFail => {
+                self.act(alloc, board, pass, change);
+                Err(self.fail())
+            }
             Fault::Late { after } => Err(self.delay(alloc, board, pass, change, after)),
             Fault::Repeat => {
-                let _ = self.pass_on(alloc, board, pass, change);
+                self.act(alloc, board, pass, change);
                 self.pass_on(alloc, board, pass, change)
             }
             Fault::Pass | Fault::Alter | Fault::Gone => self.pass_on(alloc, board, pass, change),

@@ -48,7 +48,7 @@ fn home<J: Naming>(
 ) -> Result<(Arc<MemoryService<J>, Global>, Know), Fail>
     requires board { board.now ≡ J.board }
     requires passes { ArePasses board.now 33 passes.items }
-    ensures service { IfOk result (λ r. (arc_value r.0).service.0 ≡ 0) }
+    ensures service { IfOk result (λ r. arc_value r.0 ≡ 0) }
     ensures pass { IfOk result (λ r. IsReady J.board 0 r.1) }
 {
     let (pass, service) = begun(board, passes).ok_or("two passes")?;
@@ -225,6 +225,31 @@ fn gone_on<J: Naming, R: Wait + Abort + Drop + Copy>(
     Ok(())
 }
 
+/// A link that does each change twice, over one that loses its first three calls: a failure of the first time is not seen.
+fn nested_on<J: Naming, R: Wait + Abort + Drop + Copy>(
+    rt: R,
+    alloc: Global,
+    board: &Common,
+    passes: Vec<Know>,
+) -> Result<(), Fail>
+    requires board { board.now ≡ J.board }
+    requires passes { ArePasses board.now 33 passes.items }
+{
+    let script = vec![in alloc; Fault::Lose, Fault::Lose, Fault::Lose]?;
+    let (home, mut pass) = home::<J>(alloc, board, passes)?;
+    let inner = FaultLink::new(alloc, MemoryLink::new(rt, home), script, Fault::Pass);
+    let mut link = FaultLink::new(alloc, inner, Vec::new(alloc), Fault::Repeat);
+    let failed = Err(LinkError::Failed);
+    assert_eq!(&rt; append(alloc, board, &mut pass, &mut link, 1), failed);
+    assert_eq!(&rt; link.faults(), 1);
+    assert_eq!(&rt; append(alloc, board, &mut pass, &mut link, 2), Ok(()));
+    assert_eq!(&rt; link.faults(), 1);
+    let texts = list(alloc, board, &mut pass, &mut link)?;
+    let bytes = joined(alloc, &texts)?;
+    assert!(&rt; bytes.as_slice() == [2].as_slice());
+    Ok(())
+}
+
 /// A put and a drop that are late by two calls and by one, and reads that fail.
 fn late_on<J: Naming, R: Wait + Abort + Drop + Copy>(
     rt: R,
@@ -239,6 +264,7 @@ fn late_on<J: Naming, R: Wait + Abort + Drop + Copy>(
         Fault::Late { after: 2 },
         Fault::Pass,
         Fault::Lose,
+        Fault::Pass,
         Fault::ActThenFail,
         Fault::Lose,
         Fault::Late { after: 0 },
@@ -249,6 +275,7 @@ fn late_on<J: Naming, R: Wait + Abort + Drop + Copy>(
     assert_eq!(&rt; put(alloc, board, &mut pass, &mut link, &TEXT), Err(failed));
     assert!(&rt; !has(alloc, board, &mut pass, &mut link)?);
     assert_eq!(&rt; has(alloc, board, &mut pass, &mut link), Err(failed));
+    assert!(&rt; has(alloc, board, &mut pass, &mut link)?);
     assert!(&rt; get(alloc, board, &mut pass, &mut link).is_err());
     assert!(&rt; list(alloc, board, &mut pass, &mut link).is_err());
     assert_eq!(&rt; drop_below(alloc, board, &mut pass, &mut link), Err(failed));
@@ -288,4 +315,10 @@ fn gone_get(rt: HostRuntime) -> Result<(), Fail> {
 fn late_puts_and_drops(rt: HostRuntime) -> Result<(), Fail> {
     let (board, passes) = Board::<FoldClosed>::new(rt.alloc(), 33)?;
     late_on::<Brand, _>(rt, rt.alloc(), &board, passes)
+}
+
+#[test]
+fn repeats_over_lost_calls(rt: HostRuntime) -> Result<(), Fail> {
+    let (board, passes) = Board::<FoldClosed>::new(rt.alloc(), 33)?;
+    nested_on::<Brand, _>(rt, rt.alloc(), &board, passes)
 }

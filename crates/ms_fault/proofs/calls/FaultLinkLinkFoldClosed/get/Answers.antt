@@ -1,7 +1,6 @@
 use Rattle.std.proofs.Common.{ℕ, Err, sym, ap, ◌∙◌, subst}
-use Rattle.ms_base.specs.Counts.{Rose}
 use Rattle.ms_fault.proofs.Lateness.{all_due}
-use Rattle.ms_fault.proofs.Reading.{gets_counted, alter_hides}
+use Rattle.ms_fault.proofs.Reading.{gets_asked, gets_counted, gets_passed, gets_altered}
 use Rattle.ms_fault.specs.Faults.{FaultView}
 use Rattle.ms_fault.proofs.calls.FaultLinkLinkFoldClosed.get.Goals as goal
 
@@ -22,12 +21,31 @@ invariant_of-self-in_default g c = (
 
 pub returns-in_default-clause-gets : goal.returns-in_default-clause-gets
 returns-in_default-clause-gets g c =
-    gets_counted c.args.self.now c.meet.new.self c.counted-in_default.new.self (g.L.Link.sees c.self-in_default.inside.inner) (g.L.Link.sees c.get-answer-in_default.new.self) c.get-answer-in_default.new.pass c.args.generation c.args.name.now
-    c.get-answer-in_default.result c.counted-in_default.result c.meet.ensures.next c.meet.ensures.faults (ap (λ (f : FaultView). f.inner) c.self-in_default.view_is) c.counted-in_default.ensures.answer
-    (λ failed. subst (λ (n : ℕ). Rose n c.counted-in_default.new.self.faults) (ap (λ (f : FaultView). f.faults) c.self-in_default.view_is) (c.counted-in_default.ensures.count.rose failed)) c.get-answer-in_default.ensures.gets
+    gets_counted c.args.self.now c.meet.new.self c.counted-in_default.new.self c.self-in_default.inside.faults c.get-answer-in_default.new.pass c.args.generation c.args.name.now c.get-answer-in_default.result c.counted-in_default.result
+    c.counted-in_default.ensures.count (ap (λ (f : FaultView). f.faults) c.self-in_default.view_is) c.meet.ensures.faults c.counted-in_default.ensures.answer
+    (gets_asked c.args.self.now c.meet.new.self c.counted-in_default.new.self (g.L.Link.sees c.self-in_default.inside.inner) (g.L.Link.sees c.get-answer-in_default.new.self) c.get-answer-in_default.new.pass c.args.generation c.args.name.now
+    c.get-answer-in_default.result c.counted-in_default.result c.meet.ensures.next.inner (ap (λ (f : FaultView). f.inner) c.self-in_default.view_is) (ap (λ (f : FaultView). f.inner) c.counted-in_default.ensures.same)
+    c.counted-in_default.ensures.answer c.get-answer-in_default.ensures.gets)
+
+pub returns-in_default-clause-script : goal.returns-in_default-clause-script
+returns-in_default-clause-script g c =
+    gets_passed c.meet.result c.args.self.now c.counted-in_default.new.self c.args.pass.now c.get-answer-in_default.new.pass c.args.generation c.args.name.now c.counted-in_default.result c.meet.ensures.fault
+    c.in_default.not-Lose c.in_default.not-ActThenFail c.in_default.not-Alter c.in_default.not-Gone
+    (gets_asked c.args.self.now c.meet.new.self c.counted-in_default.new.self (g.L.Link.sees c.self-in_default.inside.inner) (g.L.Link.sees c.get-answer-in_default.new.self) c.get-answer-in_default.new.pass c.args.generation c.args.name.now
+    c.get-answer-in_default.result c.counted-in_default.result c.meet.ensures.next.inner (ap (λ (f : FaultView). f.inner) c.self-in_default.view_is) (ap (λ (f : FaultView). f.inner) c.counted-in_default.ensures.same)
+    c.counted-in_default.ensures.answer c.get-answer-in_default.ensures.gets)
 
 pub returns-in-Err-clause-gets : goal.returns-in-Err-clause-gets
 returns-in-Err-clause-gets g c =
-    gets_counted c.args.self.now c.meet.new.self c.counted.new.self (g.L.Link.sees c.self-in-Alter.inside.inner) (g.L.Link.sees c.get-answer.new.self) c.get-answer.new.pass c.args.generation c.args.name.now
-    c.get-answer.result (Err c.in-Err.error) c.meet.ensures.next c.meet.ensures.faults (ap (λ (f : FaultView). f.inner) c.self-in-Alter.view_is) (sym c.in-Err.is ∙ c.counted.ensures.answer)
-    (λ failed. subst (λ (n : ℕ). Rose n c.counted.new.self.faults) (ap (λ (f : FaultView). f.faults) c.self-in-Alter.view_is) (c.counted.ensures.count.rose failed)) c.get-answer.ensures.gets
+    gets_counted c.args.self.now c.meet.new.self c.counted.new.self c.self-in-Alter.inside.faults c.get-answer.new.pass c.args.generation c.args.name.now c.get-answer.result (Err c.in-Err.error)
+    c.counted.ensures.count (ap (λ (f : FaultView). f.faults) c.self-in-Alter.view_is) c.meet.ensures.faults (sym c.in-Err.is ∙ c.counted.ensures.answer)
+    (gets_asked c.args.self.now c.meet.new.self c.counted.new.self (g.L.Link.sees c.self-in-Alter.inside.inner) (g.L.Link.sees c.get-answer.new.self) c.get-answer.new.pass c.args.generation c.args.name.now
+    c.get-answer.result (Err c.in-Err.error) c.meet.ensures.next.inner (ap (λ (f : FaultView). f.inner) c.self-in-Alter.view_is) (ap (λ (f : FaultView). f.inner) c.counted.ensures.same)
+    (sym c.in-Err.is ∙ c.counted.ensures.answer) c.get-answer.ensures.gets)
+
+pub returns-in-Err-clause-script : goal.returns-in-Err-clause-script
+returns-in-Err-clause-script g c =
+    gets_altered c.meet.result c.args.self.now c.counted.new.self c.args.pass.now c.get-answer.new.pass c.args.generation c.args.name.now c.in-Err.error c.in-Alter.is c.meet.ensures.fault
+    (gets_asked c.args.self.now c.meet.new.self c.counted.new.self (g.L.Link.sees c.self-in-Alter.inside.inner) (g.L.Link.sees c.get-answer.new.self) c.get-answer.new.pass c.args.generation c.args.name.now
+    c.get-answer.result (Err c.in-Err.error) c.meet.ensures.next.inner (ap (λ (f : FaultView). f.inner) c.self-in-Alter.view_is) (ap (λ (f : FaultView). f.inner) c.counted.ensures.same)
+    (sym c.in-Err.is ∙ c.counted.ensures.answer) c.get-answer.ensures.gets)

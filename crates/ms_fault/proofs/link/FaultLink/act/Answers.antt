@@ -5,7 +5,7 @@ use Rattle.ms_fault.specs.Changes.{event_of}
 use Rattle.ms_fault.specs.Faults.{FaultView}
 use Rattle.ms_ken.specs.Lists.{MayFollow}
 use Rattle.ms_record.specs.declared.item.Item.TheVariants.{Log}
-use Rattle.ms_fault.proofs.link.FaultLink.act_then_fail.Goals as goal
+use Rattle.ms_fault.proofs.link.FaultLink.act.Goals as goal
 
 pub send-requires-clause-closed : goal.send-requires-clause-closed
 send-requires-clause-closed g c =
