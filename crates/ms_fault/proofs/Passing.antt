@@ -1,13 +1,12 @@
 -- What a call of the link inside says of the link with faults.
-use Rattle.std.proofs.Common.{◌≡◌, ℕ, ◌+◌, ◌≤◌, ◌&&◌, Bool, true, false, List, Option, Some, None, Result, Ok, Err, IfSome, refl, sym, ap, ◌∙◌, subst, slice_get, length, ◌⊎◌, inl, inr, arith}
-use Rattle.std.specs.List.{list_all}
+use Rattle.std.proofs.Common.{◌≡◌, ℕ, ◌≤◌, ◌&&◌, Bool, true, false, List, Option, Some, None, Result, Ok, Err, IfSome, refl, sym, ap, ◌∙◌, subst, ◌⊎◌, inl, inr, arith}
 use Rattle.ms_base.specs.Counts.{Rose}
 use Rattle.ms_base.specs.Memory.{one_more}
 use Rattle.ms_core.specs.Views.{IsClosed}
 use Rattle.ms_fault.specs.Changes.{Changes}
 use Rattle.ms_fault.specs.declared.fault.Fault.{Fault}
 use Rattle.ms_fault.specs.declared.fault.Fault.TheVariants as faults
-use Rattle.ms_fault.specs.Faults.{FaultView, link_of, due, shows_kept, faults_after, ChangesBy}
+use Rattle.ms_fault.specs.Faults.{FaultView, link_of, due, faults_after, ChangesBy}
 use Rattle.ms_ken.specs.Known.{Known}
 use Rattle.ms_ken.specs.Lists.{list_at, Begins, MayFollow}
 use Rattle.ms_ken.specs.Prefixes.{prefix_length}

@@ -1,5 +1,5 @@
 -- What a reading call of the link inside says of the link with faults.
-use Rattle.std.proofs.Common.{◌≡◌, ℕ, zero, suc, ◌≤◌, ◌&&◌, Bool, true, false, List, [], ◌∷◌, Option, Some, None, Result, Ok, Err, refl, sym, ap, ◌∙◌, subst, slice_index_or, length, arith}
+use Rattle.std.proofs.Common.{◌≡◌, ℕ, zero, suc, ◌≤◌, ◌&&◌, Bool, true, false, List, [], ◌∷◌, Option, Some, None, Result, Ok, Err, refl, sym, ap, ◌∙◌, subst, slice_index_or, arith}
 use Rattle.std.specs.List.{list_all}
 use Rattle.ms_base.specs.Counts.{Rose}
 use Rattle.ms_base.specs.Memory.{one_more}

@@ -1,5 +1,5 @@
 -- Changes of a service, and the events that they are.
-use Rattle.std.specs.Prelude.{ℕ, List, length, Result}
+use Rattle.std.specs.Prelude.{ℕ, length, Result}
 use Rattle.ms_fault.specs.declared.change.Change.{Change}
 use Rattle.ms_fault.specs.declared.change.Change.TheVariants as changes
 use Rattle.ms_ken.specs.Known.{Known}

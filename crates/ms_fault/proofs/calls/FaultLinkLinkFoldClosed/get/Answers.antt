@@ -1,4 +1,4 @@
-use Rattle.std.proofs.Common.{ℕ, Err, sym, ap, ◌∙◌, subst}
+use Rattle.std.proofs.Common.{Err, sym, ap, ◌∙◌}
 use Rattle.ms_fault.proofs.Lateness.{all_due}
 use Rattle.ms_fault.proofs.Reading.{gets_asked, gets_counted, gets_passed, gets_altered}
 use Rattle.ms_fault.specs.Faults.{FaultView}

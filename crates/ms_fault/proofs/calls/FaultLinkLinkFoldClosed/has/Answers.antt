@@ -1,4 +1,4 @@
-use Rattle.std.proofs.Common.{ℕ, ap, subst}
+use Rattle.std.proofs.Common.{ap}
 use Rattle.ms_fault.proofs.Lateness.{all_due}
 use Rattle.ms_fault.proofs.Reading.{has_asked, has_counted, has_passed}
 use Rattle.ms_fault.specs.Faults.{FaultView}

@@ -1,5 +1,4 @@
 use Rattle.ms_fault.proofs.Passing.{changes_shown}
-use Rattle.ms_fault.specs.Changes.{event_of}
 use Rattle.ms_fault.specs.Faults.{due}
 use Rattle.ms_record.specs.declared.log.LogEvent.TheVariants.{Put as Stored}
 use Rattle.ms_fault.proofs.calls.FaultLinkLinkFoldClosed.put.Goals as goal
