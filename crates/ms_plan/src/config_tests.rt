@@ -38,10 +38,10 @@ fn wrong_line(alloc: Global, text: &[u8]) -> u32 {
     }
 }
 
-/// What is said of the configuration whose first service has this capacity.
+/// What is said of the configuration of the three services, where the first has this capacity.
 fn with_capacity(alloc: Global, capacity: u64) -> Result<Result<Config, Refusal>, AllocError> {
     let text = format!(in alloc;
-        "{HEAD}{{\"service\":\"s1\",\"capacity\":{capacity}}}\n{{\"service\":\"s2\",\"capacity\":1000}}\n{CLIENTS}"
+        "{HEAD}{{\"service\":\"s1\",\"capacity\":{capacity}}}\n{{\"service\":\"s2\",\"capacity\":1000}}\n{{\"service\":\"s3\",\"capacity\":1000}}\n{CLIENTS}"
     )?;
     Ok(read_config(alloc, text.as_bytes()))
 }
@@ -248,6 +248,7 @@ fn sixteen_of_each(rt: HostRuntime) -> Result<(), Fail> {
 
 #[test]
 fn a_line_that_is_no_text(rt: HostRuntime) -> Result<(), Fail> {
+    // The law asks nothing of its caller, and a call of it does nothing when the program runs.
     config_laws();
     let alloc = rt.alloc();
     let text = joined(alloc, HEAD, SERVICES, CLIENTS)?;
