@@ -111,7 +111,7 @@ impl<J: Naming> ServiceState<J> {
         Ok(())
     }
 
-    /// The pass then knows what the service's pass knows, and the other way round. It takes no memory.
+    /// The pass then knows the whole log, and what the configuration told. It takes no memory.
     pub fn show(&mut self, board: &Common, pass: &mut Know)
         requires board { (board.now ≡ J.board) × (pass.old.board ≡ J.board) }
         ensures same { self.new ≡ self.old }

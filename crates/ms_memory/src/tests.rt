@@ -55,7 +55,7 @@ fn home<J: Naming>(
     Ok((Arc::new(alloc, service)?, pass))
 }
 
-/// Appends a text to the vote list.
+/// Appends a text to a list of the link's service, where any event may follow.
 fn append<L: Link<FoldClosed>>(
     alloc: Global,
     board: &Common,
