@@ -81,7 +81,8 @@ fn slot(name: &Name) -> u32
 }
 
 /// An order is what is left of the sorted copies when of each service all but the first are struck out. The sorted copies are the
-/// plan's copies in another order, and the only list of them that is in order; so an order has each service of the plan once.
+/// plan's copies in another order, and any list of them that is in order gives the same order of services, which has each service
+/// of the plan once.
 pub fn orders_are_sorted()
     ensures same { (plan : PlanView) (slot : ℕ) → IsPermutation (copies_in plan) (sorted (compare_at slot) (copies_in plan)) }
     ensures rises { (plan : PlanView) (slot : ℕ) → IsSorted (compare_at slot) (sorted (compare_at slot) (copies_in plan)) }
@@ -91,8 +92,8 @@ pub fn orders_are_sorted()
     ensures all { (plan : PlanView) (name : Name) → IsPlan plan → IsPermutation (services_of plan) (order_of plan name) }
 {}
 
-/// A plan without one of the services has the same orders but for that service. So a service that goes moves no replica that was not
-/// on it, and one that comes moves only what comes to it.
+/// A plan without one of the services has the same orders but for that service. So a service that goes moves no place that was not
+/// on it, where the plan keeps its replicas, or loses one of an object that was on it; and one that comes takes only its own places.
 pub fn stability()
     ensures order { (plan other : PlanView) (service : ServiceId) (name : Name)
         → IsWithout service plan other → order_of other name ≡ without service (order_of plan name) }
