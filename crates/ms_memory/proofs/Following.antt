@@ -8,8 +8,10 @@ use Rattle.ms_ken.specs.Rows.{item_else}
 use Rattle.ms_ken.specs.Known.{Known}
 use Rattle.ms_link.specs.Links.{LinkView, Learns, Stays}
 use Rattle.ms_memory.specs.Untold.{IsReady, KnowsUntold}
+use Rattle.ms_memory.specs.Told.{IsMember, KnowsTold}
 use Rattle.ms_record.specs.declared.item.Item.{Item}
 use Rattle.ms_record.specs.declared.item.Item.TheVariants.{Told, Untold}
+use Rattle.ms_record.specs.declared.setting.Setting.{Setting}
 
 -- what claims nothing stays so
 pub untold_stays : (lists more : View) → Begins lists more → KnowsUntold lists → KnowsUntold more
@@ -37,4 +39,24 @@ ready_stays old new before after ready link learns = record {
   on_board = learns.board ∙ (ready.on_board ∙ sym (ap (λ (l : LinkView). l.board) link.same));
   untold = untold_stays before.lists after.lists learns.more ready.untold;
   below = subst (λ (s : ℕ). s < configuration) (sym (ap (λ (l : LinkView). l.service) link.same)) ready.below;
+}
+
+-- what knows a setting knows it alone, where it is closed
+pub told_alone : (setting : Setting) (lists : View) → IsClosed lists → KnowsTold setting lists → list_at lists configuration ≡ Told setting ∷ []
+told_alone setting lists (inl none) h = absurd (nothing (list_at lists configuration) h (none configuration))
+  where
+    nothing : (items : List Item) → IsPrefix (Told setting ∷ []) items → items ≡ [] → ⊥
+    nothing items p is = let q = p.1 ∙ is in cc q
+told_alone setting lists (inr (inl alone)) h = absurd (let q = begins_with (list_at lists configuration) (Told setting) Untold h alone in cc q)
+told_alone setting lists (inr (inr told)) h =
+    told.1.alone ∙ ap (λ (item : Item). item ∷ []) (sym (begins_with (list_at lists configuration) (Told setting) (Told told.0) h told.1.alone))
+
+-- a client stays a member from call to call
+pub member_stays : (old new : LinkView) (setting : Setting) (before after : Known Item) → IsMember old.board old.service setting before → Stays old new → Learns before after → IsMember new.board new.service setting after
+member_stays old new setting before after member link learns = record {
+  on_board = learns.board ∙ (member.on_board ∙ sym (ap (λ (l : LinkView). l.board) link.same));
+  told = prefix_trans (Told setting ∷ []) (list_at before.lists configuration) (list_at after.lists configuration) member.told (learns.more configuration);
+  ranges = member.ranges;
+  below = subst (λ (s : ℕ). s < setting.services) (sym (ap (λ (l : LinkView). l.service) link.same)) member.below;
+  wide = subst (λ (l : LinkView). l.service < l.board.words) (sym link.same) member.wide;
 }

@@ -1,3 +1,4 @@
 pub mod Shelves
 pub mod Served
 pub mod Untold
+pub mod Told

@@ -14,3 +14,5 @@ pub use state::ServiceState;
 
 #[cfg(test)]
 mod tests;
+#[cfg(test)]
+mod told_tests;
