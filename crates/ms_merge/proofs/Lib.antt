@@ -2,3 +2,5 @@ pub mod Steps
 pub mod GivenNames
 pub mod LimitLaws
 pub mod Merged
+pub mod FreeNames
+pub mod Existing

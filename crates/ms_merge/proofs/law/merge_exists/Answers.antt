@@ -1,0 +1,12 @@
+use Rattle.ms_merge.proofs.Existing.{has_merge, few_names}
+use Rattle.ms_merge.proofs.FreeNames.{has_free}
+use Rattle.ms_merge.proofs.law.merge_exists.Goals as goal
+
+pub returns-clause-merge : goal.returns-clause-merge
+returns-clause-merge c = λ base ours theirs tag may. has_merge may
+
+pub returns-clause-few : goal.returns-clause-few
+returns-clause-few c = λ base ours theirs tag files may merge. few_names may files merge
+
+pub returns-clause-free : goal.returns-clause-free
+returns-clause-free c = λ base ours theirs tag given path may few. let f = has_free may given path few in (f.name, f.is, f.near)
