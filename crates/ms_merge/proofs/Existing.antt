@@ -1,5 +1,5 @@
 -- A merge of any files: names for its files, and files that have what each path gives.
-use Rattle.std.proofs.Common.{◌≡◌, ℕ, suc, ◌+◌, ◌≤◌, Bool, true, false, cond, if◌then◌else◌, List, [], ◌∷◌, ◌++◌, length, length-append, filter, Contains, not, Some, None, is_some, refl, sym, ◌∙◌, ap, subst, inl, inr, arith, Ordering, Less, Equal, Greater, nat_cmp}
+use Rattle.std.proofs.Common.{◌≡◌, ℕ, ◌+◌, ◌≤◌, Bool, true, false, cond, if◌then◌else◌, List, [], ◌∷◌, ◌++◌, length, length-append, filter, Contains, not, Some, None, is_some, refl, sym, ◌∙◌, ap, subst, inl, inr, arith, Ordering, Less, Equal, Greater, nat_cmp}
 use Rattle.std.specs.Ordering.{match_ordering, ordering_reverse}
 use Rattle.std.specs.Cmp.Lexicographic.{slice_cmp, nat_list_cmp_total}
 use Rattle.std.specs.List.{list_any, IsDistinct}
@@ -21,6 +21,7 @@ use Rattle.ms_tree.specs.Merging.{Side, standing, is_conflict, names_of, conflic
 use Rattle.ms_tree.proofs.FileLaws.{text_at-with_file}
 use Rattle.ms_tree.proofs.Members.{Rises, Before, not_before_itself, all_from, in_cases, in_none, rises_none, rises_cons, rises_first, rises_rest}
 use Rattle.ms_merge.specs.Settling.{settled_at}
+use Rattle.ms_merge.proofs.GivenNames.{as_many}
 use Rattle.ms_merge.proofs.FreeNames.{has_free}
 
 -- ---- names for all files
@@ -167,12 +168,6 @@ has_files settled moved =
 
 -- ---- how many names are given
 
-as_many : (base ours theirs : FileList) (tag : List ℕ) (given : List (List ℕ)) (files named : FileList) → AreTagged base ours theirs tag given files named → length named ≡ length files
-as_many base ours theirs tag given [] [] are = refl
-as_many base ours theirs tag given [] (n ∷ named) are = absurd are
-as_many base ours theirs tag given (f ∷ files) [] are = absurd are
-as_many base ours theirs tag given (f ∷ files) (n ∷ named) are = ap suc (as_many base ours theirs tag (given ++ n.0 ∷ []) files named are.2)
-
 fewer : {X : Type 0} (p : X → Bool) (xs : List X) → length (filter p xs) ≤ length xs
 fewer p xs = omega (arith, length-filter_both p (λ x. not (p x)) (λ x. refl) xs)
 
@@ -199,9 +194,11 @@ few_settled base ours theirs doubled settled rise are =
     ∙ from_side (text_at doubled q) (text_at base q) (text_at ours q) (text_at theirs q) (ap (λ (o : Side). is_some o) (sym (are q)) ∙ is_some-lookup (bytes_eq q) settled ∙ has)) in
     omega (arith, length-map settled (λ (f : List ℕ × List ℕ). f.0), length-map all (λ (f : List ℕ × List ℕ). f.0), length-append doubled (ours ++ theirs), length-append ours theirs)
 
+pub few_conflicts : {base ours theirs : FileList} {tag : List ℕ} → MayMerge base ours theirs tag → length (conflicts base ours theirs) ≤ 100000
+few_conflicts {base} {ours} {theirs} may = omega (arith, may.ours_whole.count, fewer (λ f. is_conflict (text_at base f.0) (Some f.1) (text_at theirs f.0)) ours)
+
 pub few_doubled : {base ours theirs : FileList} {tag : List ℕ} → MayMerge base ours theirs tag → (doubled : FileList) → AreTagged base ours theirs tag [] (conflicts base ours theirs) doubled → length doubled ≤ 100000
-few_doubled {base} {ours} {theirs} {tag} may doubled are =
-    omega (arith, may.ours_whole.count, as_many base ours theirs tag [] (conflicts base ours theirs) doubled are, fewer (λ f. is_conflict (text_at base f.0) (Some f.1) (text_at theirs f.0)) ours)
+few_doubled {base} {ours} {theirs} {tag} may doubled are = omega (arith, few_conflicts may, as_many base ours theirs tag [] (conflicts base ours theirs) doubled are)
 
 pub few_directories : {base ours theirs : FileList} {tag : List ℕ} → MayMerge base ours theirs tag → (doubled settled : FileList) → length doubled ≤ 100000 → Rises (keys_of settled)
     → ((path : List ℕ) → text_at settled path ≡ option_or (text_at doubled path) (settled_at base ours theirs path)) → length (directories settled) ≤ 300000
@@ -218,7 +215,7 @@ few_names {base} {ours} {theirs} {tag} may files m =
 
 pub has_merge : {base ours theirs : FileList} {tag : List ℕ} → MayMerge base ours theirs tag → (files : FileList) × IsMerge base ours theirs tag files
 has_merge {base} {ours} {theirs} {tag} may =
-    let d = has_names may (conflicts base ours theirs) [] (omega (arith, may.ours_whole.count, fewer (λ f. is_conflict (text_at base f.0) (Some f.1) (text_at theirs f.0)) ours)) in
+    let d = has_names may (conflicts base ours theirs) [] (omega (arith, few_conflicts may)) in
     let few = few_doubled may d.named d.are in
     let s = has_settled base ours theirs d.named in
     let m = has_names may (directories s.settled) (keys_of d.named) (omega (arith, few, few_directories may d.named s.settled few s.rise s.are, length-map d.named (λ (f : List ℕ × List ℕ). f.0))) in

@@ -218,3 +218,10 @@ has_free {base} {ours} {theirs} {tag} may given path few =
       | inl f ↦ record { name = tagged tag path f.number; is = record { number = f.number; spelled = refl; free = f.passes; first = f.before }; near = f.below }
       | inr none ↦ absurd (not_all_taken base ours theirs tag given path 4294967295 (lit< tt) (omega arith) none)
     ]
+
+-- so the tries never end without a free name
+pub all_tried : {base ours theirs : FileList} {tag : List ℕ} → MayMerge base ours theirs tag → (given : List (List ℕ)) (path : List ℕ) (tried : ℕ) → length given ≤ 2147483648 → 4294967295 ≤ tried
+    → ((k : ℕ) → k < tried → is_free base ours theirs given (tagged tag path k) ≡ false) → ⊥
+all_tried {base} {ours} {theirs} may given path tried few end none =
+    let f = has_free may given path few in
+    false≢true (sym (none f.is.number (omega (arith, f.near))) ∙ ap (is_free base ours theirs given) (sym f.is.spelled) ∙ f.is.free)

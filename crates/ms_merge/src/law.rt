@@ -4,8 +4,8 @@ ghost use Rattle.std.specs.Prelude.{◌<◌, ◌≤◌, ◌-◌, ◌^◌, ℕ, L
 ghost use Rattle.ms_tree.specs.Files.{FileList};
 ghost use Rattle.ms_tree.specs.Merging.{MayMerge, IsTagged, IsMerge, names_of};
 
-/// There is a merge of any files that keep all rules, whatever limits it passes. It gives few names, and each path has
-/// a first free tagged name among the 2^32 - 1 that are tried.
+/// There is a merge of any files that keep all rules, whatever limits it passes: `docs/PROTOCOL.md`, merge. It gives at
+/// most 400,000 names. Each path has a first free tagged name among the 2^32 - 1 that are tried.
 pub fn merge_exists()
     ensures merge { (base ours theirs : FileList) (tag : List ℕ) → MayMerge base ours theirs tag → (files : FileList) × IsMerge base ours theirs tag files }
     ensures few { (base ours theirs : FileList) (tag : List ℕ) (files : FileList) → MayMerge base ours theirs tag → (merge : IsMerge base ours theirs tag files) → length (names_of merge) ≤ 400000 }
