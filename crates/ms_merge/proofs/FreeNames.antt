@@ -175,13 +175,13 @@ candidate_is tag path (suc n) name h =
 -- ---- the first that is free
 
 -- the first number that passes the test, or none below the bound does
-record First (test : ℕ → Bool) (bound : ℕ) : Type 0 where
-  number : ℕ
-  below : number < bound
-  passes : test number ≡ true
-  before : (k : ℕ) → k < number → test k ≡ false
+pub record First (test : ℕ → Bool) (bound : ℕ) : Type 0 where
+  pub number : ℕ
+  pub below : number < bound
+  pub passes : test number ≡ true
+  pub before : (k : ℕ) → k < number → test k ≡ false
 
-first_of_all : (test : ℕ → Bool) (bound : ℕ) → First test bound ⊎ ((k : ℕ) → k < bound → test k ≡ false)
+pub first_of_all : (test : ℕ → Bool) (bound : ℕ) → First test bound ⊎ ((k : ℕ) → k < bound → test k ≡ false)
 first_of_all test zero = inr (λ k less. absurd (omega arith))
 first_of_all test (suc n) =
     elim (first_of_all test n) [

@@ -4,3 +4,4 @@ pub mod LimitLaws
 pub mod Merged
 pub mod FreeNames
 pub mod Existing
+pub mod Answering
