@@ -1,11 +1,11 @@
 -- Names that are given, one after the other.
-use Rattle.std.proofs.Common.{◌≡◌, ℕ, ◌<◌, ◌≤◌, Bool, true, false, not, ◌||◌, if◌then◌else◌, List, [], ◌∷◌, ◌++◌, map, take, length, Some, None, is_some, refl, sym, ◌∙◌, ap, subst, append_assoc, append-nil}
+use Rattle.std.proofs.Common.{◌≡◌, ℕ, ◌<◌, ◌≤◌, Bool, true, false, not, ◌||◌, if◌then◌else◌, List, [], ◌∷◌, ◌++◌, map, take, length, Some, None, is_some, refl, sym, ◌∙◌, ap, subst, append_assoc, append-nil, length-append, arith, suc, ◌+◌}
 use Rattle.std.specs.List.{list_any}
 use Rattle.std.specs.Map.{keys_of}
 use Rattle.std.specs.Option.{option_or}
 use Rattle.std.specs.Str.{bytes_eq}
 use Rattle.std.proofs.lemmas.Bool.{false≢true}
-use Rattle.std.proofs.lemmas.List.{map-append}
+use Rattle.std.proofs.lemmas.List.{map-append, length-map, length-take}
 use Rattle.std.proofs.lemmas.List.Folds.{list_any-append}
 use Rattle.std.proofs.lemmas.Map.Made.{is_some-lookup}
 use Rattle.std.proofs.lemmas.Slice.Eq.{bytes_eq-Decides}
@@ -35,6 +35,13 @@ tagged_push base ours theirs tag [] (m ∷ named) given f n are is text = absurd
 tagged_push base ours theirs tag (g ∷ files) [] given f n are is text = absurd are
 tagged_push base ours theirs tag (g ∷ files) (m ∷ named) given f n are is text =
     (are.0, are.1, tagged_push base ours theirs tag files named (given ++ m.0 ∷ []) f n are.2 (subst (λ (l : List (List ℕ)). IsTagged base ours theirs tag l f.0 n.0) (sym (append_assoc given (m.0 ∷ []) (keys_of named))) is) text)
+
+-- each file has its name
+pub as_many : (base ours theirs : FileList) (tag : List ℕ) (given : List (List ℕ)) (files named : FileList) → AreTagged base ours theirs tag given files named → length named ≡ length files
+as_many base ours theirs tag given [] [] are = refl
+as_many base ours theirs tag given [] (n ∷ named) are = absurd are
+as_many base ours theirs tag given (f ∷ files) [] are = absurd are
+as_many base ours theirs tag given (f ∷ files) (n ∷ named) are = ap suc (as_many base ours theirs tag (given ++ n.0 ∷ []) files named are.2)
 
 neither : (a b : Bool) → (a || b) ≡ false → (a ≡ false) × (b ≡ false)
 neither false false h = (refl, refl)
@@ -104,3 +111,24 @@ given_more by_name order new more name text g put pushed = record {
 pub named_all : (base ours theirs : FileList) (tag : List ℕ) (given more old new : FileList) (files : List DraftFile) (place : ℕ) → IsNamed base ours theirs tag (map drafted (take place files)) given more old new → length files ≤ place
     → IsNamed base ours theirs tag (map drafted files) given more old new
 named_all base ours theirs tag given more old new files place n all = subst (λ (l : FileList). IsNamed base ours theirs tag l given more old new) (shown_all drafted files place all) n
+
+-- ---- how many there are
+
+pub length-names : (files : List DraftFile) → length (keys_of (map drafted files)) ≡ length files
+length-names files = length-map (map drafted files) (λ (f : List ℕ × List ℕ). f.0) ∙ length-map files drafted
+
+-- there is room for the next name
+pub room : (base ours theirs : FileList) (tag : List ℕ) (files before after : List DraftFile) (place : ℕ) (old new : FileList) → IsNamed base ours theirs tag (map drafted (take place files)) (map drafted before) (map drafted after) old new
+    → length before + length files ≤ 2147483648 → length after ≤ 2147483648
+room base ours theirs tag files before after place old new n few =
+    let all : length (map drafted after) ≡ length (map drafted before ++ n.named) = ap length n.is in
+    omega (
+      arith,
+      all,
+      length-append (map drafted before) n.named,
+      as_many base ours theirs tag (keys_of (map drafted before)) (map drafted (take place files)) n.named n.are,
+      length-map (take place files) drafted,
+      length-map before drafted,
+      length-map after drafted,
+      length-take place files,
+    )

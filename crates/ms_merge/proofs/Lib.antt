@@ -2,3 +2,6 @@ pub mod Steps
 pub mod GivenNames
 pub mod LimitLaws
 pub mod Merged
+pub mod FreeNames
+pub mod Existing
+pub mod Answering

@@ -1,18 +1,21 @@
 -- The steps of a merge together.
-use Rattle.std.proofs.Common.{◌≡◌, ℕ, if◌then◌else◌, List, [], ◌++◌, Some, None, is_some, Err, refl, sym, ◌∙◌, ap, subst}
+use Rattle.std.proofs.Common.{◌≡◌, ℕ, ◌+◌, ◌≤◌, if◌then◌else◌, List, [], ◌++◌, length, map, Some, None, is_some, Err, refl, sym, ◌∙◌, ap, subst, arith}
 use Rattle.std.specs.Ordering.{nat_cmp}
 use Rattle.std.specs.Cmp.Lexicographic.{slice_cmp}
 use Rattle.std.specs.List.Sorted.{IsStrictlySortedBy}
 use Rattle.std.specs.Map.{keys_of}
 use Rattle.std.specs.Option.{option_or}
-use Rattle.std.proofs.lemmas.List.{map-append}
+use Rattle.std.proofs.lemmas.List.{map-append, length-map}
 use Rattle.ms_record.specs.declared.refusal.Refusal.{Refusal}
 use Rattle.ms_record.specs.declared.refusal.Refusal.TheVariants as refusals
+use Rattle.ms_tree.specs.declared.draft.DraftFile.{DraftFile}
+use Rattle.ms_tree.specs.DraftFiles.{drafted}
 use Rattle.ms_tree.specs.Files.{FileList, text_at, IsFiles}
-use Rattle.ms_tree.specs.Merging.{Side, standing, conflicts, directories, AreTagged, IsMerge, names_of, IsMerged, KeepsLimits, PassesLimit, Merges}
+use Rattle.ms_tree.specs.Merging.{Side, standing, conflicts, directories, AreTagged, MayMerge, IsMerge, names_of, IsMerged, KeepsLimits, PassesLimit, Merges}
 use Rattle.ms_merge.specs.Settling.{settled_at, Settles, Removes, HasMerged}
 use Rattle.ms_merge.specs.Naming.{IsNamed}
 use Rattle.ms_merge.specs.Passing.{Fits}
+use Rattle.ms_merge.proofs.Existing.{few_conflicts, few_doubled, few_directories}
 
 -- where ours and theirs have nothing, nothing stands
 or_none : (gives : Side) → option_or gives None ≡ gives
@@ -81,6 +84,26 @@ has_merged base ours theirs tag doubled removed moved before given more both set
       merge = merged base ours theirs tag given more both settled left files stands first settled_rise gone' last' rise;
       names_are = merged_names base ours theirs tag given more both settled left files stands first settled_rise gone' last' rise;
     }
+
+-- ---- room for all names
+
+pub room_for_doubled : {base ours theirs : FileList} {tag : List ℕ} → MayMerge base ours theirs tag → (before doubled : List DraftFile) → before ≡ [] → map drafted doubled ≡ conflicts base ours theirs → length before + length doubled ≤ 2147483648
+room_for_doubled may before doubled none are =
+    let n = sym (length-map doubled drafted) ∙ ap length are in
+    let zero : length before ≡ 0 = ap length none in
+    omega (arith, zero, n, few_conflicts may)
+
+pub room_for_moved : {base ours theirs : FileList} {tag : List ℕ} → MayMerge base ours theirs tag → (doubled before : FileList) (given moved : List DraftFile) (both settled : FileList) → ((path : List ℕ) → text_at both path ≡ settled_at base ours theirs path)
+    → doubled ≡ conflicts base ours theirs → before ≡ [] → IsNamed base ours theirs tag doubled before (map drafted given) both settled → IsStrictlySortedBy (slice_cmp nat_cmp) (keys_of settled)
+    → map drafted moved ≡ directories settled → length given + length moved ≤ 2147483648
+room_for_moved {base} {ours} {theirs} {tag} may doubled before given moved both settled stands d none named rise are =
+    let first : IsNamed base ours theirs tag (conflicts base ours theirs) [] (map drafted given) both settled =
+    subst (λ (l : FileList). IsNamed base ours theirs tag (conflicts base ours theirs) l (map drafted given) both settled) none (subst (λ (l : FileList). IsNamed base ours theirs tag l before (map drafted given) both settled) d named) in
+    let few = few_doubled may first.named first.are in
+    let more = few_directories may first.named settled few rise (λ path. first.there path ∙ ap (option_or (text_at first.named path)) (stands path)) in
+    let one = sym (length-map given drafted) ∙ ap length first.is in
+    let other = sym (length-map moved drafted) ∙ ap length are in
+    omega (arith, few, more, one, other)
 
 -- the same files and names
 pub same_merged : (base ours theirs : FileList) (tag : List ℕ) (files names others other_names : FileList) → HasMerged base ours theirs tag others other_names → files ≡ others → names ≡ other_names → HasMerged base ours theirs tag files names

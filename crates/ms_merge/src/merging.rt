@@ -3,7 +3,7 @@
 ghost use Rattle.std.specs.Prelude.{◌≡◌, ℕ, List, map, IfOk};
 ghost use Rattle.ms_tree.specs.Files.{text_at};
 ghost use Rattle.ms_text.specs.Labels.{IsLabel};
-ghost use Rattle.ms_tree.specs.Merging.{Merges};
+ghost use Rattle.ms_tree.specs.Merging.{Merges, MayMerge};
 ghost use Rattle.ms_tree.specs.DraftFiles.{drafted};
 ghost use Rattle.ms_merge.specs.Settling.{settled_at, Removes, HasMerged};
 
@@ -30,13 +30,13 @@ pub fn merge(
     requires { IsLabel tag.now }
     ensures { Merges base.now ours.now theirs.now tag.now result }
 {
-    let sides = Sides { base, ours, theirs };
-    let Unchecked { draft, names } = merged(alloc, &sides, tag)?;
-    let rows = draft.rows()?;
     base.shows();
     ours.shows();
     theirs.shows();
     merge_laws();
+    let sides = Sides { base, ours, theirs };
+    let Unchecked { draft, names } = merged(alloc, &sides, tag)?;
+    let rows = draft.rows()?;
     match check(&rows, &names) {
         Ok(()) => Ok(Files::from_rows(alloc, &rows)?),
         Err(refusal) => Err(refusal),
@@ -52,6 +52,7 @@ struct Unchecked<'a> {
 
 /// Merges whatever limits are passed.
 fn merged<'a>(alloc: Global, sides: &Sides<'a>, tag: &str) -> Result<Unchecked<'a>, NoMemory>
+    requires { MayMerge sides.now.base.now sides.now.ours.now sides.now.theirs.now tag.now }
     ensures { IfOk result (λ m. HasMerged sides.now.base.now sides.now.ours.now sides.now.theirs.now tag.now m.draft (map drafted m.names.items)) }
 {
     let mut draft = settled(alloc, sides)?;

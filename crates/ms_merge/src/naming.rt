@@ -1,8 +1,8 @@
 //! Tagged names: the first that is free.
 
-ghost use Rattle.std.specs.Prelude.{◌≡◌, List, ℕ, map, string_bytes, IfOk, OnOk};
+ghost use Rattle.std.specs.Prelude.{◌≡◌, ◌≤◌, ◌+◌, ◌^◌, List, ℕ, length, map, string_bytes, IfOk, OnOk};
 ghost use Rattle.std.specs.Map.{keys_of};
-ghost use Rattle.ms_tree.specs.Merging.{tagged, is_taken, is_free, IsTagged};
+ghost use Rattle.ms_tree.specs.Merging.{tagged, is_taken, is_free, IsTagged, MayMerge};
 ghost use Rattle.ms_tree.specs.DraftFiles.{drafted};
 ghost use Rattle.ms_merge.specs.Naming.{IsGiven, IsNamed};
 
@@ -56,7 +56,7 @@ fn is_free(sides: &Sides, given: &Given, name: &str) -> Result<bool, NoMemory>
     Ok(!given.by_name.has(name))
 }
 
-/// The first tagged name of the path that is free. Fewer names than are tried can be taken.
+/// The first tagged name of the path that is free. Fewer names can be taken than are tried.
 fn first_free(
     alloc: Global,
     sides: &Sides,
@@ -64,7 +64,9 @@ fn first_free(
     given: &Given,
     path: &str,
 ) -> Result<String, NoMemory>
-    requires { IsGiven given.now.by_name (map drafted given.now.order.items) }
+    requires may { MayMerge sides.now.base.now sides.now.ours.now sides.now.theirs.now tag.now }
+    requires few { length given.now.order.items ≤ 2 ^ 31 }
+    requires given { IsGiven given.now.by_name (map drafted given.now.order.items) }
     ensures { IfOk result (λ name. IsTagged sides.now.base.now sides.now.ours.now sides.now.theirs.now tag.now (keys_of (map drafted given.now.order.items)) path.now (string_bytes name)) }
 {
     for number in 0..u32::MAX {
@@ -73,7 +75,7 @@ fn first_free(
             return Ok(name);
         }
     }
-    Err(NoMemory)
+    unreachable!()
 }
 
 /// Puts the files at tagged names of their paths, one after the other.
@@ -85,7 +87,9 @@ pub fn give_names<'a>(
     draft: &mut Draft<'a>,
     given: &mut Given<'a>,
 ) -> Result<(), NoMemory>
-    requires { IsGiven given.old.by_name (map drafted given.old.order.items) }
+    requires may { MayMerge sides.now.base.now sides.now.ours.now sides.now.theirs.now tag.now }
+    requires few { length given.old.order.items + length files.now ≤ 2 ^ 31 }
+    requires given { IsGiven given.old.by_name (map drafted given.old.order.items) }
     ensures given { OnOk result (IsGiven given.new.by_name (map drafted given.new.order.items)) }
     ensures named { OnOk result (IsNamed sides.now.base.now sides.now.ours.now sides.now.theirs.now tag.now (map drafted files.now)
         (map drafted given.old.order.items) (map drafted given.new.order.items) draft.old draft.new) }

@@ -1,6 +1,6 @@
 //! Merges whose answers were known before.
 
-use crate::{ByPath, merge};
+use crate::{ByPath, merge, merge_exists};
 use ms_base::{Bytes, Quantity};
 use ms_record::Refusal;
 use ms_tree::{Files, Merger};
@@ -406,6 +406,32 @@ fn a_tagged_name_past_a_limit(rt: HostRuntime) -> Result<(), Fail> {
                 value: 201
             })
         )
+    );
+    Ok(())
+}
+
+#[test]
+fn a_merge_exists(rt: HostRuntime) -> Result<(), Fail> {
+    merge_exists();
+    assert!(rt;
+        gives(
+            rt.alloc(),
+            &[],
+            &[("x", "1")],
+            &[
+                ("x", "2"),
+                ("x.ann", "3"),
+                ("x.ann.2/y", "4"),
+                ("x.ann.4", "5")
+            ],
+            &[
+                ("x", "2"),
+                ("x.ann", "3"),
+                ("x.ann.2/y", "4"),
+                ("x.ann.3", "1"),
+                ("x.ann.4", "5")
+            ]
+        )?
     );
     Ok(())
 }

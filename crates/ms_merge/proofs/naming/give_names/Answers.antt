@@ -6,15 +6,19 @@ use Rattle.ms_tree.specs.declared.draft.DraftFile.{DraftFile}
 use Rattle.ms_tree.specs.DraftFiles.{drafted}
 use Rattle.ms_tree.specs.Files.{text_at}
 use Rattle.ms_tree.specs.Merging.{IsTagged}
-use Rattle.ms_merge.proofs.GivenNames.{named_none, named_more, named_all, given_more}
+use Rattle.ms_merge.proofs.GivenNames.{named_none, named_more, named_all, given_more, room}
 use Rattle.ms_merge.proofs.Steps.{shown_item}
 use Rattle.ms_merge.proofs.naming.give_names.Goals as goal
 
 pub loop-file-init : goal.loop-file-init
-loop-file-init c = (c.requires, named_none _ _ _ _ _ _)
+loop-file-init c = (c.requires.given, named_none _ _ _ _ _ _)
 
 pub first_free-requires : goal.first_free-requires
-first_free-requires c = c.loop-file.invariant.0
+first_free-requires c = record {
+  may = c.requires.may;
+  few = room _ _ _ _ c.args.files.now c.args.given.now.order.items c.loop-file.given.order.items c.loop-file.file-index _ _ c.loop-file.invariant.1 c.requires.few;
+  given = c.loop-file.invariant.0;
+}
 
 pub loop-file-preserved : goal.loop-file-preserved
 loop-file-preserved c =

@@ -1,0 +1,16 @@
+use Rattle.ms_merge.proofs.Answering.{has_answer}
+use Rattle.ms_merge.proofs.Existing.{has_merge, few_names}
+use Rattle.ms_merge.proofs.FreeNames.{has_free}
+use Rattle.ms_merge.proofs.law.merge_exists.Goals as goal
+
+pub returns-clause-merge : goal.returns-clause-merge
+returns-clause-merge c = λ base ours theirs tag may. has_merge may
+
+pub returns-clause-few : goal.returns-clause-few
+returns-clause-few c = λ base ours theirs tag files may merge. few_names may files merge
+
+pub returns-clause-free : goal.returns-clause-free
+returns-clause-free c = λ base ours theirs tag given path may few. let f = has_free may given path few in (f.name, f.is, f.near)
+
+pub returns-clause-answer : goal.returns-clause-answer
+returns-clause-answer c = λ base ours theirs tag may. let a = has_answer may in (a.answer, a.has_room, a.is)
