@@ -1,7 +1,8 @@
 //! Lines, words and numbers whose values were known before.
 
 use crate::{
-    bytes, hex_bytes, name, next_line, number, push_name, push_number, push_text, split_at_space,
+    Label, bytes, hex_bytes, is_client_label, name, next_line, number, push_name, push_number,
+    push_text, split_at_space,
 };
 use std::test::*;
 
@@ -79,7 +80,7 @@ fn words_are_printed(rt: HostRuntime) -> Result<(), Fail> {
 }
 
 #[test]
-fn labels(rt: HostRuntime) {
+fn labels(rt: HostRuntime) -> Result<(), Fail> {
     for label in [
         b"a".as_slice(),
         b"0",
@@ -100,4 +101,11 @@ fn labels(rt: HostRuntime) {
     ] {
         assert!(rt; !is_client_label(label), "{label:?}");
     }
+    let label = Label::of(rt.alloc(), "ann")
+        .ok()
+        .ok_or("memory")?
+        .ok_or("a label")?;
+    assert_eq!(rt; label.as_str(), "ann");
+    assert!(rt; Label::of(rt.alloc(), "Ann").ok().ok_or("memory")?.is_none());
+    Ok(())
 }
