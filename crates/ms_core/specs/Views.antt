@@ -37,9 +37,6 @@ owner_of_client client = 16 + client
 abbrev pub configuration : ℕ
 configuration = 32
 
-abbrev pub all_owners : ℕ
-all_owners = 33
-
 -- the log of each service, and the offers of each client
 abbrev pub log_in : View → ℕ → List LogEvent
 log_in view service = events_of (list_at view service)

@@ -56,6 +56,11 @@ pub fn told_views()
 
 /// What each item of such a view rests on: what has no support is in no view.
 pub fn supports()
+    // Each item of a service or client is supported, behind the items before it.
+    ensures items { (view : View) (setting : Setting) → IsClosed view → list_at view configuration ≡ Told setting ∷ []
+        → (owner : ℕ) (before : List Item) (item : Item) (after : List Item) → owner ≢ configuration → before ++ item ∷ after ≡ list_at view owner → IsSupported setting view owner before item }
+    // The setting is in its ranges.
+    ensures ranges { (view : View) (setting : Setting) → IsClosed view → list_at view configuration ≡ Told setting ∷ [] → IsSetting setting }
     // No vote is invented: each Accept in a vote list was offered.
     ensures votes { (view : View) (setting : Setting) → IsClosed view → list_at view configuration ≡ Told setting ∷ []
         → (service place k : ℕ) (b : Ballot) (e : Entry) → slice_get (votes_told view service) place ≡ Some (Accept k b e) → IsOffered (offers_told view) k b e }
