@@ -1,5 +1,5 @@
 -- A version of nothing: the texts that it reaches, and a store of them.
-use Rattle.std.proofs.Common.{◌≡◌, ◌≢◌, ℕ, zero, suc, ◌+◌, ◌<◌, ◌≤◌, Bool, true, false, cond, List, [], ◌∷◌, ◌++◌, Option, Some, None, ◌⊎◌, inl, inr, refl, sym, ap, ◌∙◌, subst, slice_index, length, All, Contains, arith}
+use Rattle.std.proofs.Common.{◌≡◌, ℕ, Bool, true, false, cond, List, [], ◌∷◌, Option, Some, None, ◌⊎◌, inl, inr, refl, sym, ap, ◌∙◌, subst, slice_index, Contains, arith}
 use Rattle.std.specs.Prelude.{bytes_eq, ◌↔◌, Ok}
 use Rattle.std.specs.List.Sorted.{IsStrictlySortedBy}
 use Rattle.std.proofs.lemmas.Slice.Eq.{bytes_eq-Decides}
@@ -11,7 +11,7 @@ use Rattle.ms_object.specs.declared.object.Object.{Object}
 use Rattle.ms_object.specs.declared.object.Object.TheVariants as objects
 use Rattle.ms_object.specs.Objects.{Spells, object_text}
 use Rattle.ms_object.specs.Reading.{object_at}
-use Rattle.ms_object.specs.Trees.{Texts, FileText, IsTree, object_named, object_or_fault, text_or_fault, or_fault, rows_of, met_below, walk, walk_rows, Met, first_fault}
+use Rattle.ms_object.specs.Trees.{Texts, IsTree, object_named, object_or_fault, text_or_fault, or_fault, rows_of, met_below, walk, walk_rows, Met, first_fault}
 
 some_same : (x y : List ℕ) → Some x ≡ Some y → x ≡ y
 some_same x y e = cc

@@ -1,47 +1,32 @@
 -- The bids of client 0 for positions 1 and 2, where one service has a version of nothing.
-use Rattle.std.proofs.Common.{◌≡◌, ◌≢◌, ℕ, zero, suc, ◌+◌, ◌<◌, ◌≤◌, ◌==◌, Bool, true, false, cond, List, [], ◌∷◌, ◌++◌, Option, Some, None, ◌⊎◌, inl, inr, ⊎_elim, refl, sym, ap, ◌∙◌, subst, slice_get, length, replicate, map, take, All, Contains, arith}
-use Rattle.std.specs.List.{range_with_len, count_by}
-use Rattle.std.specs.Prelude.{slice_index_or, IfSome}
-use Rattle.std.proofs.lemmas.Bool.{eqb-true}
-use Rattle.sha2.proofs.Facts256.{length-sha256}
-use Rattle.sha2.specs.Sha256.{sha256}
+use Rattle.std.proofs.Common.{◌≡◌, ℕ, zero, suc, ◌+◌, ◌<◌, ◌≤◌, List, [], ◌∷◌, Option, Some, None, inl, inr, refl, sym, ap, ◌∙◌, subst, slice_get, length, replicate, take, arith}
 use Rattle.ms_base.specs.declared.names.Name.{Name}
-use Rattle.ms_core.proofs.EmptyVersion.{nobody, directory, root, version, top, directory_spelled, version_spelled, two_texts, has_directory, has_version, texts_are, no_files}
-use Rattle.ms_core.proofs.Following.{tells_item, told_first, event_may_follow}
+use Rattle.ms_core.proofs.EmptyVersion.{directory, root, version, top}
+use Rattle.ms_core.proofs.Following.{told_first, event_may_follow}
 use Rattle.ms_core.proofs.OneService.{Read, only, only_zero, only_majority, in_majority, some_service, rows_below, row_marked, whole, put_directory, put_version, supports_prepare, supports_accept, tells_event, tells_offer, not_hasty, not_early, ballot_of_round, first_entry, second_plan, second_entry, prepare, accept, reads_prepare, reads_accept, first_fits, plan_fits, second_fits, rows_are, enough}
 use Rattle.ms_core.proofs.Places.{in_none, in_cases, some_same}
-use Rattle.ms_core.proofs.Telling.{tells, vote_offered, offered, log_supported}
-use Rattle.ms_core.specs.FirstBids.{vote, with_put, with_vote, with_offer, IsBid, MayNotOffer, MayDrop, MayNotDrop}
-use Rattle.ms_core.specs.Placing.{PlacedBy, IsPlaced, OnEnough, HasObject, wanted_in}
-use Rattle.ms_core.specs.declared.reaching.Want.{Want}
-use Rattle.ms_core.specs.declared.reaching.Wanted.TheVariants as wanted
-use Rattle.ms_core.specs.Valid.{IsValid, IsBacked}
-use Rattle.ms_core.specs.Views.{View, configuration, owner_of_client, log_in, offers_told, votes_told, WholeBy, IsWhole, SupportsOffer, SupportsEvent, TellsSetting, IsClosed}
-use Rattle.ms_ken.specs.Lists.{list_at, with_item}
-use Rattle.ms_object.specs.declared.object.Object.{Object}
-use Rattle.ms_object.specs.Objects.{Spells, object_text}
-use Rattle.ms_object.specs.Reading.{object_at}
+use Rattle.ms_core.proofs.Telling.{tells, offered, log_supported}
+use Rattle.ms_core.specs.FirstBids.{with_put, with_vote, with_offer, IsBid, MayNotOffer, MayDrop, MayNotDrop}
+use Rattle.ms_core.specs.Placing.{OnEnough}
+use Rattle.ms_core.specs.Views.{View, configuration, log_in, offers_told, votes_told, IsWhole, SupportsOffer, SupportsEvent, TellsSetting, IsClosed}
+use Rattle.ms_ken.specs.Lists.{with_item}
+use Rattle.ms_object.specs.Objects.{object_text}
 use Rattle.ms_record.specs.declared.ballot.Ballot.{Ballot}
-use Rattle.ms_record.specs.declared.ballot.Vote.{Vote}
 use Rattle.ms_record.specs.declared.entry.Entry.{Entry}
-use Rattle.ms_record.specs.declared.item.Item.{Item}
-use Rattle.ms_record.specs.declared.item.Item.TheVariants.{Log, Offer, Told}
-use Rattle.ms_record.specs.declared.log.LogEvent.{LogEvent}
+use Rattle.ms_record.specs.declared.item.Item.TheVariants.{Log, Told}
 use Rattle.ms_record.specs.declared.log.LogEvent.TheVariants.{Rec, Put, Drop}
-use Rattle.ms_record.specs.declared.plan.PlanRow.{PlanRow}
 use Rattle.ms_record.specs.declared.record.Record.{Record}
 use Rattle.ms_record.specs.declared.record.Record.TheVariants.{Prepare, Accept}
 use Rattle.ms_record.specs.declared.setting.Setting.{Setting}
-use Rattle.ms_record.specs.Chains.{IsChosen, LinksOn, last_name, IsLinked, GoesOn, all_services, generation_in}
+use Rattle.ms_record.specs.Chains.{LinksOn, last_name, IsLinked, all_services, generation_in}
 use Rattle.ms_record.specs.Entries.{IsEntry, name_of}
 use Rattle.ms_record.specs.Logs.{HasPut}
-use Rattle.ms_record.specs.Offers.{IsFirstPromised, Shows, JustifiedBy, IsOffered}
+use Rattle.ms_record.specs.Offers.{Shows, JustifiedBy}
 use Rattle.ms_record.specs.Ballots.{IsAtMost}
-use Rattle.ms_record.specs.Plans.{PlanView, IsPlan}
-use Rattle.ms_record.specs.Reading.{record_at, votes_of, with_record}
-use Rattle.ms_record.specs.Records.{IsRecord, record_text}
+use Rattle.ms_record.specs.Plans.{PlanView}
+use Rattle.ms_record.specs.Reading.{record_at, with_record}
 use Rattle.ms_record.specs.Settings.{IsSetting, origin_of, plan_in}
-use Rattle.ms_record.specs.Votes.{IsMajority, IsPromised, IsTaken, ChosenBy, position_of, ballot_of, services_below}
+use Rattle.ms_record.specs.Votes.{IsTaken, ChosenBy, position_of, ballot_of, services_below}
 
 -- ---- the views, one after the other
 
@@ -279,7 +264,7 @@ unplaced setting set one closed =
 may_not_offer : Read → (setting : Setting) → IsSetting setting → setting.services ≡ 1 → MayNotOffer (begun setting) 1 (ballot_of_round 1) (first_entry setting) (prepare 1)
 may_not_offer r setting set one =
     let closed = tells_event setting (begun setting) (Rec (record { 0 = 0 }) (prepare 1)) set wide (tells (begun setting) setting (told_first setting 33 set (omega arith)) refl)
-        (supports_prepare setting (log_in (begun setting)) (offers_told (begun setting)) 1 (ballot_of_round 1) (prepare 1) (reads_prepare r 1 (omega arith) (omega arith))) in
+    (supports_prepare setting (log_in (begun setting)) (offers_told (begun setting)) 1 (ballot_of_round 1) (prepare 1) (reads_prepare r 1 (omega arith) (omega arith))) in
     (inr (inr (setting, closed)), unplaced setting set one)
 
 -- before the bid nothing above generation 1 may be dropped

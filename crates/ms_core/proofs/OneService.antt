@@ -1,5 +1,5 @@
 -- Views that tell a setting of one service, which has a version of nothing: what supports their items.
-use Rattle.std.proofs.Common.{◌≡◌, ◌≢◌, ℕ, zero, suc, ◌+◌, ◌*◌, ◌<◌, ◌≤◌, ◌==◌, Bool, true, false, cond, List, [], ◌∷◌, ◌++◌, Option, Some, None, ◌⊎◌, inl, inr, ⊎_elim, refl, sym, ap, ◌∙◌, subst, slice_get, length, replicate, map, All, Contains, arith}
+use Rattle.std.proofs.Common.{◌≡◌, ℕ, zero, suc, ◌+◌, ◌*◌, ◌<◌, ◌≤◌, ◌==◌, Bool, true, false, cond, List, [], ◌∷◌, Option, Some, None, inl, inr, refl, sym, ap, ◌∙◌, subst, slice_get, length, map, All, Contains, arith}
 use Rattle.std.specs.List.{range_with_len, count_by}
 use Rattle.std.specs.Prelude.{slice_index_or, IfSome}
 use Rattle.std.proofs.lemmas.Bool.{eqb-true}
@@ -7,40 +7,33 @@ use Rattle.sha2.proofs.Facts256.{length-sha256}
 use Rattle.sha2.specs.Sha256.{sha256}
 use Rattle.ms_base.specs.declared.names.Name.{Name}
 use Rattle.ms_core.proofs.EmptyVersion.{nobody, directory, root, version, top, directory_spelled, version_spelled, two_texts, has_directory, has_version, texts_are, no_files}
-use Rattle.ms_core.proofs.Following.{tells_item, told_first, event_may_follow}
-use Rattle.ms_core.proofs.Places.{in_none, in_here, in_later, some_same}
-use Rattle.ms_core.proofs.Telling.{tells, vote_offered, offered, log_supported}
-use Rattle.ms_core.specs.FirstBids.{vote, with_vote, with_offer, IsBid, MayDrop, MayNotDrop}
-use Rattle.ms_core.specs.Placing.{PlacedBy, IsPlaced, OnEnough, HasObject, wanted_in}
+use Rattle.ms_core.proofs.Following.{tells_item}
+use Rattle.ms_core.proofs.Places.{in_here, some_same}
+use Rattle.ms_core.proofs.Telling.{tells, vote_offered, offered}
+use Rattle.ms_core.specs.FirstBids.{with_offer}
+use Rattle.ms_core.specs.Placing.{PlacedBy, HasObject, wanted_in}
 use Rattle.ms_core.specs.declared.reaching.Want.{Want}
-use Rattle.ms_core.specs.declared.reaching.Wanted.TheVariants as wanted
-use Rattle.ms_core.specs.Valid.{IsValid, IsBacked}
-use Rattle.ms_core.specs.Views.{View, configuration, owner_of_client, log_in, offers_told, votes_told, WholeBy, IsWhole, SupportsOffer, SupportsEvent, TellsSetting, IsClosed}
+use Rattle.ms_core.specs.Views.{View, configuration, log_in, offers_told, votes_told, WholeBy, SupportsOffer, SupportsEvent, TellsSetting, IsClosed}
 use Rattle.ms_ken.specs.Lists.{list_at, with_item}
 use Rattle.ms_object.specs.declared.object.Object.{Object}
 use Rattle.ms_object.specs.Objects.{Spells, object_text}
 use Rattle.ms_object.specs.Reading.{object_at}
 use Rattle.ms_record.specs.declared.ballot.Ballot.{Ballot}
-use Rattle.ms_record.specs.declared.ballot.Vote.{Vote}
 use Rattle.ms_record.specs.declared.entry.Entry.{Entry}
-use Rattle.ms_record.specs.declared.item.Item.{Item}
 use Rattle.ms_record.specs.declared.item.Item.TheVariants.{Log, Offer, Told}
 use Rattle.ms_record.specs.declared.log.LogEvent.{LogEvent}
-use Rattle.ms_record.specs.declared.log.LogEvent.TheVariants.{Rec, Put, Drop}
+use Rattle.ms_record.specs.declared.log.LogEvent.TheVariants.{Rec, Put}
 use Rattle.ms_record.specs.declared.plan.PlanRow.{PlanRow}
 use Rattle.ms_record.specs.declared.record.Record.{Record}
 use Rattle.ms_record.specs.declared.record.Record.TheVariants.{Prepare, Accept}
 use Rattle.ms_record.specs.declared.setting.Setting.{Setting}
-use Rattle.ms_record.specs.Chains.{IsChosen, IsLinked, GoesOn, all_services, generation_in}
 use Rattle.ms_record.specs.Entries.{IsEntry, name_of}
-use Rattle.ms_record.specs.Logs.{HasPut}
-use Rattle.ms_record.specs.Offers.{IsFirstPromised, Shows, JustifiedBy, IsOffered}
-use Rattle.ms_record.specs.Ballots.{IsAtMost}
+use Rattle.ms_record.specs.Offers.{IsOffered}
 use Rattle.ms_record.specs.Plans.{PlanView, IsPlan}
-use Rattle.ms_record.specs.Reading.{record_at, votes_of, with_record}
+use Rattle.ms_record.specs.Reading.{record_at}
 use Rattle.ms_record.specs.Records.{IsRecord, record_text}
-use Rattle.ms_record.specs.Settings.{IsSetting, origin_of}
-use Rattle.ms_record.specs.Votes.{IsMajority, IsPromised, IsTaken, ChosenBy, position_of, ballot_of, services_below}
+use Rattle.ms_record.specs.Settings.{IsSetting}
+use Rattle.ms_record.specs.Votes.{IsMajority, services_below}
 
 -- what the readers of records and objects give
 pub record Read : Type 0 where
