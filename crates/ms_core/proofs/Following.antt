@@ -1,5 +1,5 @@
 -- Which items may follow what is known.
-use Rattle.std.proofs.Common.{◌≡◌, ◌≢◌, ℕ, zero, suc, ◌+◌, ◌<◌, List, [], ◌∷◌, ◌++◌, Option, Some, None, ◌⊎◌, inl, inr, ⊎_elim, refl, sym, ap, ◌∙◌, subst, slice_get, length, replicate, arith}
+use Rattle.std.proofs.Common.{◌≡◌, ◌≢◌, ℕ, ◌+◌, ◌<◌, List, [], ◌∷◌, ◌++◌, Some, inl, inr, ⊎_elim, refl, sym, ap, ◌∙◌, subst, slice_get, length, replicate, arith}
 use Rattle.std.proofs.lemmas.List.{append-nil, length-replicate}
 use Rattle.std.proofs.lemmas.List.Elements.{filter_map-append}
 use Rattle.std.specs.List.{filter_map}
@@ -7,10 +7,10 @@ use mathlib.Core.List.{IsPrefix}
 use Rattle.ms_core.proofs.Places.{same_or_not}
 use Rattle.ms_core.proofs.Telling.{tells}
 use Rattle.ms_core.specs.Closing.{support_stays}
-use Rattle.ms_core.specs.Valid.{IsBacked, votes_of_logs}
-use Rattle.ms_core.specs.Views.{View, configuration, owner_of_client, log_in, offers_told, votes_told, SupportsVote, SupportsEvent, SupportsLog, SupportsOffer, SupportsOwn, IsSupported, TellsSetting, IsClosed}
+use Rattle.ms_core.specs.Valid.{IsBacked}
+use Rattle.ms_core.specs.Views.{View, configuration, owner_of_client, log_in, offers_told, votes_told, SupportsEvent, SupportsOffer, IsSupported, TellsSetting, IsClosed}
 use Rattle.ms_ken.specs.Lists.{list_at, Begins, with_item, MayFollow}
-use Rattle.ms_ken.specs.Prefixes.{prefix_is, prefix_length}
+use Rattle.ms_ken.specs.Prefixes.{prefix_length}
 use Rattle.ms_ken.specs.Rows.{begins_item, item_here, item_else, list_at-replicate}
 use Rattle.ms_ken.specs.Supports.{snoc_cases}
 use Rattle.ms_record.specs.declared.ballot.Ballot.{Ballot}
@@ -22,12 +22,11 @@ use Rattle.ms_record.specs.declared.log.LogEvent.TheVariants.{Rec, Put, Drop}
 use Rattle.ms_record.specs.declared.record.Record.{Record}
 use Rattle.ms_record.specs.declared.record.Record.TheVariants.{Accept}
 use Rattle.ms_record.specs.declared.setting.Setting.{Setting}
-use Rattle.ms_record.specs.Chains.{IsLinked, all_services, generation_in}
 use Rattle.ms_record.specs.Growing.{votes_append, chosen_grows}
 use Rattle.ms_record.specs.Items.{event_in, offer_in}
 use Rattle.ms_record.specs.Logs.{votes_in}
-use Rattle.ms_record.specs.Offers.{GrowsTo, IsOffered}
-use Rattle.ms_record.specs.Settings.{IsSetting, origin_of}
+use Rattle.ms_record.specs.Offers.{GrowsTo}
+use Rattle.ms_record.specs.Settings.{IsSetting}
 use Rattle.ms_record.specs.Votes.{services_below}
 
 -- ---- one item more, which is supported

@@ -26,3 +26,6 @@ pub mod Telling
 pub mod Viewing
 pub mod Following
 pub mod Supporting
+pub mod EmptyVersion
+pub mod OneService
+pub mod FirstBids

@@ -1,20 +1,14 @@
 -- Logs that grow: their votes, their puts, and their drops.
-use Rattle.std.proofs.Common.{◌≡◌, ℕ, ◌==◌, Bool, true, false, cond, List, [], ◌∷◌, ◌++◌, Option, Some, None, ◌⊎◌, inl, inr, refl, sym, ap, ◌∙◌, subst, slice_set, slice_index_or, length, take, drop, Contains, take-append-drop}
+use Rattle.std.proofs.Common.{◌≡◌, ℕ, List, [], ◌∷◌, ◌++◌, ◌⊎◌, inl, inr, refl, sym, ap, ◌∙◌, subst, slice_set, slice_index_or, length, take, drop, Contains, take-append-drop}
 use Rattle.std.proofs.lemmas.Bool.{cases_lt}
 use Rattle.std.proofs.lemmas.List.{append-nil, get_or-set_same, get_or-set_other, set_past}
-use Rattle.std.proofs.lemmas.List.Elements.{Contains-append_left, Contains-append_cases}
-use Rattle.ms_base.specs.declared.names.Name.{Name}
-use Rattle.ms_core.specs.Placing.{PlacedBy, IsPlaced}
+use Rattle.std.proofs.lemmas.List.Elements.{Contains-append_cases}
 use Rattle.ms_core.specs.Worlds.{ClientView, WorldView, log_of, votes_of_world, known_votes, logged}
 use Rattle.ms_core.proofs.Places.{same_or_not, in_none, in_cases}
 use Rattle.ms_record.specs.declared.log.LogEvent.{LogEvent}
-use Rattle.ms_record.specs.declared.log.LogEvent.TheVariants.{Rec, Put, Drop}
-use Rattle.ms_record.specs.declared.record.Record.{Record}
-use Rattle.ms_record.specs.Growing.{LogsGrow, votes_append, votes_grow}
+use Rattle.ms_record.specs.Growing.{LogsGrow, votes_append}
 use Rattle.ms_record.specs.Logs.{votes_in}
 use Rattle.ms_record.specs.Offers.{GrowsTo}
-use Rattle.ms_record.specs.Plans.{PlanView}
-use Rattle.ms_record.specs.Reading.{record_at, votes_of, with_record}
 
 -- what a client knows is the front of the votes
 pub known_grows : (w : WorldView) (c : ClientView) → GrowsTo (known_votes w c) (votes_of_world w)

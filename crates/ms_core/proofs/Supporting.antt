@@ -1,25 +1,22 @@
 -- What the items of a run's view rest on.
-use Rattle.std.proofs.Common.{◌≡◌, ℕ, zero, suc, ◌+◌, ◌<◌, ◌≤◌, ◌==◌, Bool, true, false, cond, List, [], ◌∷◌, ◌++◌, Option, Some, None, ◌⊎◌, inl, inr, refl, sym, ap, ◌∙◌, subst, slice_get, slice_index_or, length, Contains, arith}
+use Rattle.std.proofs.Common.{◌≡◌, ℕ, zero, suc, ◌<◌, ◌≤◌, ◌==◌, Bool, true, false, cond, List, [], ◌∷◌, ◌++◌, Option, Some, None, ◌⊎◌, inl, inr, refl, sym, ap, ◌∙◌, subst, slice_get, slice_index_or, length, Contains, arith}
 use Rattle.std.proofs.lemmas.Bool.{cases_lt}
 use Rattle.std.proofs.lemmas.Bool.Decides.{nat_tests}
 use Rattle.std.proofs.lemmas.Option.{slice_get_within}
-use Rattle.ms_core.proofs.Invariant.{ClientOk, Inv}
+use Rattle.ms_core.proofs.Invariant.{Inv}
 use Rattle.ms_core.proofs.Places.{append_left, in_none}
 use Rattle.ms_core.proofs.Telling.{contains_at}
-use Rattle.ms_core.specs.Views.{SupportsEvent, IsDeclared, MayDeclare}
-use Rattle.ms_core.specs.Worlds.{ClientView, WorldView, log_of, votes_of_world, offers_of, offers_in}
-use Rattle.ms_record.specs.declared.ballot.Ballot.{Ballot}
-use Rattle.ms_record.specs.declared.entry.Entry.{Entry}
+use Rattle.ms_core.specs.Views.{SupportsEvent, MayDeclare}
+use Rattle.ms_core.specs.Worlds.{ClientView, WorldView, log_of, offers_of, offers_in}
 use Rattle.ms_record.specs.declared.log.ListId.{ListId}
 use Rattle.ms_record.specs.declared.log.LogEvent.{LogEvent}
 use Rattle.ms_record.specs.declared.log.LogEvent.TheVariants.{Rec, Put, Drop}
 use Rattle.ms_record.specs.declared.record.Record.{Record}
 use Rattle.ms_record.specs.declared.record.Record.TheVariants.{Prepare, Accept}
 use Rattle.ms_record.specs.declared.setting.Setting.{Setting}
-use Rattle.ms_record.specs.Logs.{texts_in, votes_in}
+use Rattle.ms_record.specs.Logs.{texts_in}
 use Rattle.ms_record.specs.Offers.{IsOffered}
 use Rattle.ms_record.specs.Reading.{record_at, votes_of, with_record}
-use Rattle.ms_record.specs.Votes.{ballot_of}
 
 -- ---- where a text of a vote list stands
 

@@ -1,14 +1,11 @@
 -- What the items of a view that tells a setting rest on.
-use Rattle.std.proofs.Common.{◌≡◌, ◌≢◌, ℕ, zero, suc, ◌+◌, ◌<◌, ◌==◌, Bool, true, false, cond, List, [], ◌∷◌, ◌++◌, Option, Some, None, ◌⊎◌, inl, inr, refl, sym, ap, ◌∙◌, subst, slice_get, length, Contains, arith}
+use Rattle.std.proofs.Common.{◌≡◌, ℕ, zero, suc, ◌<◌, ◌==◌, Bool, true, false, cond, List, [], ◌∷◌, ◌++◌, Option, Some, None, inl, inr, refl, sym, ap, ◌∙◌, subst, slice_get, length, Contains, arith}
 use Rattle.std.proofs.lemmas.Bool.{cases_lt}
 use Rattle.std.proofs.lemmas.Bool.Decides.{nat_tests}
 use Rattle.std.proofs.lemmas.Option.{slice_get_within, get_or_from_slice_get}
 use Rattle.std.specs.List.{filter_map, cons_option}
-use Rattle.sha2.specs.Sha256.{sha256}
-use Rattle.ms_base.specs.declared.names.Name.{Name}
 use Rattle.ms_core.proofs.Places.{same_or_not, append_cases, in_here, in_later}
-use Rattle.ms_core.specs.Valid.{IsBacked, IsValid}
-use Rattle.ms_core.specs.Views.{View, configuration, owner_of_client, log_in, offers_told, votes_told, IsWhole, SupportsEvent, SupportsOffer, IsSupported, TellsSetting, IsClosed}
+use Rattle.ms_core.specs.Views.{View, configuration, owner_of_client, log_in, offers_told, votes_told, SupportsEvent, SupportsOffer, TellsSetting, IsClosed}
 use Rattle.ms_ken.specs.Lists.{list_at}
 use Rattle.ms_ken.specs.Prefixes.{get_splits}
 use Rattle.ms_record.specs.declared.ballot.Ballot.{Ballot}
@@ -19,7 +16,7 @@ use Rattle.ms_record.specs.declared.log.ListId.{ListId}
 use Rattle.ms_record.specs.declared.log.LogEvent.{LogEvent}
 use Rattle.ms_record.specs.declared.log.LogEvent.TheVariants.{Rec, Put, Drop}
 use Rattle.ms_record.specs.declared.record.Record.{Record}
-use Rattle.ms_record.specs.declared.record.Record.TheVariants.{Prepare, Accept}
+use Rattle.ms_record.specs.declared.record.Record.TheVariants.{Accept}
 use Rattle.ms_record.specs.declared.setting.Setting.{Setting}
 use Rattle.ms_record.specs.Items.{event_in, offer_in, offers_of_items}
 use Rattle.ms_record.specs.Logs.{texts_in}

@@ -1,26 +1,24 @@
 -- In a view that tells a setting, what is chosen agrees, is valid, and stays placed.
-use Rattle.std.proofs.Common.{◌≡◌, ℕ, ◌+◌, ◌<◌, ◌≤◌, true, List, [], ◌∷◌, ◌++◌, Some, ◌⊎◌, inl, inr, sym, ap, ◌∙◌, subst, slice_get, length, Contains, arith}
+use Rattle.std.proofs.Common.{◌≡◌, ℕ, ◌+◌, List, [], ◌∷◌, ◌++◌, Some, ◌⊎◌, inl, inr, ◌∙◌, subst, slice_get, length, arith}
 use Rattle.std.proofs.lemmas.Bool.{cases_lt}
-use Rattle.ms_base.specs.declared.names.Name.{Name}
 use Rattle.ms_core.proofs.Events.{counted}
 use Rattle.ms_core.proofs.Laws.{Laws}
 use Rattle.ms_core.proofs.Living.{OneList, AreBacked, live_stands, live_plan}
 use Rattle.ms_core.proofs.Telling.{tells, log_supported, vote_offered, offered, told_sound}
 use Rattle.ms_core.specs.Closing.{closed_of_longer, logs_grow, whole_more}
 use Rattle.ms_core.specs.Growth.{linked_grows}
-use Rattle.ms_core.specs.Valid.{IsBacked, IsLive, IsValid}
-use Rattle.ms_core.specs.Views.{View, configuration, log_in, offers_told, votes_told, WholeBy, IsWhole, StaysWhole, TellsSetting, IsClosed}
+use Rattle.ms_core.specs.Valid.{IsLive, IsValid}
+use Rattle.ms_core.specs.Views.{View, configuration, log_in, offers_told, votes_told, IsWhole, StaysWhole, TellsSetting, IsClosed}
 use Rattle.ms_ken.specs.Lists.{list_at, Agree, longer_lists}
 use Rattle.ms_ken.specs.Prefixes.{longer_by}
 use Rattle.ms_ken.specs.Rows.{agree_first, agree_second, list_at-longer_lists}
 use Rattle.ms_record.specs.declared.entry.Entry.{Entry}
-use Rattle.ms_record.specs.declared.item.Item.{Item}
 use Rattle.ms_record.specs.declared.item.Item.TheVariants.{Told}
 use Rattle.ms_record.specs.declared.setting.Setting.{Setting}
 use Rattle.ms_record.specs.Chains.{IsLinked, IsChain, IsChosen, Agrees, AllNext, Begins, all_services}
 use Rattle.ms_record.specs.Logs.{HasPut, Stands}
 use Rattle.ms_record.specs.Plans.{PlanView}
-use Rattle.ms_record.specs.Settings.{IsSetting, origin_of}
+use Rattle.ms_record.specs.Settings.{origin_of}
 use Rattle.ms_record.specs.Votes.{services_below}
 
 -- a valid entry whose version is whole

@@ -1,11 +1,10 @@
 -- The laws of closed views: every support stays when lists grow, and of two closed views that agree the longer lists are closed.
-use Rattle.std.proofs.Common.{◌≡◌, ◌≢◌, ℕ, ◌+◌, ◌<◌, ◌⊎◌, List, [], ◌∷◌, ◌++◌, Option, Some, refl, sym, ap, ◌∙◌, subst, inl, inr, ⊎_elim, slice_get, length, replicate, arith}
+use Rattle.std.proofs.Common.{◌≡◌, ℕ, List, [], ◌∷◌, ◌++◌, sym, ap, ◌∙◌, subst, inl, inr, ⊎_elim, length, replicate, arith}
 use Rattle.std.specs.List.{filter_map}
 use Rattle.std.proofs.lemmas.List.Elements.{filter_map-append}
 use mathlib.Core.List.{IsPrefix}
 use Rattle.ms_core.specs.Growth.{valid_grows, backed_grows, put_stays}
-use Rattle.ms_core.specs.Valid.{IsValid}
-use Rattle.ms_core.specs.Views.{View, configuration, owner_of_client, log_in, offers_told, votes_told, WholeBy, IsWhole, SupportsVote, SupportsEvent, SupportsLog, SupportsOffer, SupportsOwn, IsSupported, TellsSetting, IsClosed}
+use Rattle.ms_core.specs.Views.{View, configuration, owner_of_client, log_in, offers_told, votes_told, WholeBy, IsWhole, SupportsEvent, SupportsLog, SupportsOwn, IsSupported, TellsSetting, IsClosed}
 use Rattle.ms_ken.specs.Lists.{list_at, Begins, Agree, longer, longer_lists}
 use Rattle.ms_ken.specs.Prefixes.{longer_by, longer_of_nil, longer_first, prefix_get}
 use Rattle.ms_ken.specs.Rows.{list_at-replicate, list_at-longer_lists, agree_first, agree_second, same_lists, length-longer_lists}
@@ -16,7 +15,6 @@ use Rattle.ms_record.specs.declared.item.Item.{Item}
 use Rattle.ms_record.specs.declared.item.Item.TheVariants.{Log, Offer, Told, Untold}
 use Rattle.ms_record.specs.declared.log.LogEvent.{LogEvent}
 use Rattle.ms_record.specs.declared.log.LogEvent.TheVariants.{Rec, Put, Drop}
-use Rattle.ms_record.specs.declared.record.Record.{Record}
 use Rattle.ms_record.specs.declared.record.Record.TheVariants.{Prepare, Accept}
 use Rattle.ms_record.specs.declared.setting.Setting.{Setting}
 use Rattle.ms_record.specs.Growing.{LogsGrow, votes_grow, justified_grows}

@@ -1,5 +1,5 @@
 -- What holds of logs stays when they grow.
-use Rattle.std.proofs.Common.{◌≡◌, ℕ, ◌+◌, List, ◌++◌, inl, inr, subst, Contains}
+use Rattle.std.proofs.Common.{ℕ, ◌+◌, List, inl, inr, subst, Contains}
 use Rattle.std.proofs.lemmas.List.Elements.{Contains-append_left}
 use Rattle.ms_base.specs.declared.names.Name.{Name}
 use Rattle.ms_core.specs.Placing.{PlacedBy, IsPlaced}

@@ -14,3 +14,4 @@ pub mod Floors
 pub mod Growth
 pub mod Views
 pub mod Closing
+pub mod FirstBids

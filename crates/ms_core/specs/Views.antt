@@ -1,5 +1,5 @@
 -- Views of the board that services and clients share: what supports an item, and when a view is closed.
-use Rattle.std.specs.Prelude.{◌≡◌, ◌≢◌, ℕ, ◌+◌, ◌<◌, ◌≤◌, ◌⊎◌, List, [], ◌∷◌, ◌++◌, Option, Some, None, Contains}
+use Rattle.std.specs.Prelude.{◌≡◌, ◌≢◌, ℕ, ◌+◌, ◌<◌, ◌⊎◌, List, [], ◌∷◌, ◌++◌, Some, Contains}
 use Rattle.sha2.specs.Sha256.{sha256}
 use Rattle.ms_base.specs.declared.names.ClientId.{ClientId}
 use Rattle.ms_base.specs.declared.names.Name.{Name}
@@ -36,9 +36,6 @@ owner_of_client client = 16 + client
 
 abbrev pub configuration : ℕ
 configuration = 32
-
-abbrev pub all_owners : ℕ
-all_owners = 33
 
 -- the log of each service, and the offers of each client
 abbrev pub log_in : View → ℕ → List LogEvent

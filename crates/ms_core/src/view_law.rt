@@ -3,6 +3,7 @@
 ghost use Rattle.std.specs.Prelude.{◌≡◌, ◌≢◌, ◌+◌, ◌<◌, ◌⊎◌, ◌++◌, ◌∷◌, [], ℕ, List, Some, Contains, length, replicate, slice_get};
 ghost use Rattle.sha2.specs.Sha256.{sha256};
 ghost use Rattle.ms_base.specs.declared.names.Name.{Name};
+ghost use Rattle.ms_core.specs.FirstBids.{IsBid, MayDrop, MayNotDrop, MayNotOffer, with_offer, with_put, with_vote};
 ghost use Rattle.ms_core.specs.Valid.{IsBacked, IsLive, IsValid};
 ghost use Rattle.ms_core.specs.Views.{View, configuration, owner_of_client, log_in, offers_told, votes_told, IsWhole, StaysWhole, SupportsEvent, SupportsOffer, IsSupported, IsClosed};
 ghost use Rattle.ms_ken.specs.Lists.{list_at, Agree, Begins as BeginsView, MayFollow, longer_lists, with_item};
@@ -20,6 +21,7 @@ ghost use Rattle.ms_record.specs.Plans.{PlanView};
 ghost use Rattle.ms_record.specs.Settings.{IsSetting, origin_of};
 ghost use Rattle.ms_record.specs.Votes.{services_below};
 
+use ms_object::object::one_spelling as objects_have_one;
 use ms_record::law::{ballots_agree, one_chain, places_stay};
 use ms_record::record::one_spelling;
 
@@ -56,6 +58,11 @@ pub fn told_views()
 
 /// What each item of such a view rests on: what has no support is in no view.
 pub fn supports()
+    // Each item of a service or client is supported, behind the items before it.
+    ensures items { (view : View) (setting : Setting) → IsClosed view → list_at view configuration ≡ Told setting ∷ []
+        → (owner : ℕ) (before : List Item) (item : Item) (after : List Item) → owner ≢ configuration → before ++ item ∷ after ≡ list_at view owner → IsSupported setting view owner before item }
+    // The setting is in its ranges.
+    ensures ranges { (view : View) (setting : Setting) → IsClosed view → list_at view configuration ≡ Told setting ∷ [] → IsSetting setting }
     // No vote is invented: each Accept in a vote list was offered.
     ensures votes { (view : View) (setting : Setting) → IsClosed view → list_at view configuration ≡ Told setting ∷ []
         → (service place k : ℕ) (b : Ballot) (e : Entry) → slice_get (votes_told view service) place ≡ Some (Accept k b e) → IsOffered (offers_told view) k b e }
@@ -102,3 +109,20 @@ pub fn may_follow()
     ensures first { (setting : Setting) (owners : ℕ) → IsSetting setting → configuration < owners → IsClosed (with_item (replicate owners []) configuration (Told setting)) }
     ensures first_untold { (owners : ℕ) → configuration < owners → IsClosed (with_item (replicate owners []) configuration Untold) }
 {}
+
+/// Closed views with masters are there: the first bids for each setting of one service.
+pub fn first_bids()
+    // A service keeps two texts, and a client bids for position 1. Without the texts the offer has no support, and before the bid a drop below
+    // generation 2 has none.
+    ensures first { (setting : Setting) → IsSetting setting → setting.services ≡ 1
+        → (view : View) × (directory version : List ℕ) × (ballot : Ballot) × (entry : Entry) × (prepare accept : List ℕ)
+        × IsBid setting (with_put (with_put view 1 directory) 1 version) 1 ballot entry prepare accept
+        × MayNotOffer view 1 ballot entry prepare × MayNotDrop (with_put (with_put view 1 directory) 1 version) 2 }
+    // It then bids for position 2, with a plan of generation 2. Once that is chosen, the drop may follow.
+    ensures second { (setting : Setting) → IsSetting setting → setting.services ≡ 1
+        → (view : View) × (ballot : Ballot) × (entry : Entry) × (prepare accept : List ℕ) × IsBid setting view 2 ballot entry prepare accept
+        × MayDrop (with_vote (with_offer (with_vote view prepare) 2 ballot entry) accept) 2 }
+{
+    objects_have_one();
+    one_spelling();
+}

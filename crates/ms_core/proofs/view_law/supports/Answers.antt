@@ -5,6 +5,12 @@ use Rattle.ms_ken.specs.Prefixes.{get_splits}
 use Rattle.ms_record.specs.declared.log.LogEvent.TheVariants.{Put, Drop}
 use Rattle.ms_core.proofs.view_law.supports.Goals as goal
 
+pub returns-clause-items : goal.returns-clause-items
+returns-clause-items c = λ view setting closed told. (tells view setting closed told).supported
+
+pub returns-clause-ranges : goal.returns-clause-ranges
+returns-clause-ranges c = λ view setting closed told. (tells view setting closed told).ranges
+
 pub returns-clause-votes : goal.returns-clause-votes
 returns-clause-votes c = λ view setting closed told s place k b e at. vote_offered view setting (tells view setting closed told) s place k b e at
 
