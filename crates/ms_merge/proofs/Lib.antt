@@ -5,3 +5,4 @@ pub mod Merged
 pub mod FreeNames
 pub mod Existing
 pub mod Answering
+pub mod OneAnswer

@@ -3,7 +3,7 @@
 ghost use Rattle.std.specs.Prelude.{◌≡◌, ℕ, List, map, IfOk};
 ghost use Rattle.ms_tree.specs.Files.{text_at};
 ghost use Rattle.ms_text.specs.Labels.{IsLabel};
-ghost use Rattle.ms_tree.specs.Merging.{Merges, MayMerge};
+ghost use Rattle.ms_tree.specs.Merging.{Merges, MayMerge, KeepsChanges};
 ghost use Rattle.ms_tree.specs.DraftFiles.{drafted};
 ghost use Rattle.ms_merge.specs.Settling.{settled_at, Removes, HasMerged};
 
@@ -28,7 +28,9 @@ pub fn merge(
     tag: &str,
 ) -> Result<Files, Refusal>
     requires { IsLabel tag.now }
-    ensures { Merges base.now ours.now theirs.now tag.now result }
+    ensures merges { Merges base.now ours.now theirs.now tag.now result }
+    ensures keeps_ours { IfOk result (λ files. KeepsChanges base.now ours.now tag.now files) }
+    ensures keeps_theirs { IfOk result (λ files. KeepsChanges base.now theirs.now tag.now files) }
 {
     base.shows();
     ours.shows();

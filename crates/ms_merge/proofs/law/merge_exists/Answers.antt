@@ -1,6 +1,7 @@
 use Rattle.ms_merge.proofs.Answering.{has_answer}
 use Rattle.ms_merge.proofs.Existing.{has_merge, few_names}
 use Rattle.ms_merge.proofs.FreeNames.{has_free}
+use Rattle.ms_merge.proofs.OneAnswer.{answers_same}
 use Rattle.ms_merge.proofs.law.merge_exists.Goals as goal
 
 pub returns-clause-merge : goal.returns-clause-merge
@@ -14,3 +15,6 @@ returns-clause-free c = λ base ours theirs tag given path may few. let f = has_
 
 pub returns-clause-answer : goal.returns-clause-answer
 returns-clause-answer c = λ base ours theirs tag may. let a = has_answer may in (a.answer, a.has_room, a.is)
+
+pub returns-clause-one_answer : goal.returns-clause-one_answer
+returns-clause-one_answer c = λ base ours theirs tag one other may room more a b. answers_same may one other room more a b
