@@ -1,11 +1,8 @@
 -- What may be done later stays so while its link makes other calls.
-use Rattle.std.proofs.Common.{◌≡◌, ℕ, ◌+◌, zero, suc, Bool, true, false, cond, Some, refl, ◌<◌, ◌≤◌, length, slice_index_or, List, [], ◌∷◌, ◌++◌, None, take, drop, All, sym, ap, ◌∙◌, subst, arith}
+use Rattle.std.proofs.Common.{◌≡◌, ℕ, zero, suc, Bool, true, false, cond, refl, ◌<◌, ◌≤◌, List, [], ◌∷◌, ◌++◌, None, All, take, sym, ap, ◌∙◌, subst, length, slice_index_or, slice_set, arith}
 use Rattle.std.proofs.lemmas.Bool.Decides.{nat_tests}
-use Rattle.std.proofs.lemmas.List.Quantifiers.{position-Some}
-use Rattle.std.specs.List.{remove, position, position_from, filter}
-use Rattle.std.proofs.lemmas.Iterator.Adapters.{position_from-zero}
-use Rattle.std.specs.Prelude.{nat_le, nat_lt}
-use Rattle.std.proofs.lemmas.List.Elements.{All-append, All-take, All-drop, All-push, All-head, All-tail, All-cons, All-weaker}
+use Rattle.std.specs.Prelude.{nat_lt}
+use Rattle.std.proofs.lemmas.List.Elements.{All-push, All-filter, filter_passes}
 use Rattle.ms_fault.specs.Changes.{size_of}
 use Rattle.ms_fault.specs.Late.{IsDue, waiting}
 use Rattle.ms_fault.specs.declared.late.LateChange.{LateChange}
@@ -24,19 +21,6 @@ due_stays old new late stays h =
 pub all_due : (old new : LinkView) (late : List LateChange) → Stays old new → All (IsDue old) late → All (IsDue new) late
 all_due old new late stays all = λ k d lt. due_stays old new _ stays (all k d lt)
 
-pub stays_on : (old mid new : LinkView) → Stays old mid → Stays mid new → Stays old new
-stays_on old mid new one other = record {
-  same = other.same ∙ ap (λ (link : LinkView). let l : LinkView = record link { faults = new.faults } in l) one.same;
-  later = omega (arith, one.later, other.later);
-}
-
-pub due_others : (link : LinkView) (late : List LateChange) (place : ℕ) → All (IsDue link) late → All (IsDue link) (remove late place)
-due_others link late place all = All-append (IsDue link) (take place late) (drop (suc place) late) (All-take (IsDue link) place late all) (All-drop (IsDue link) (suc place) late all)
-
--- the change at a place may be done
-pub may_be_done : (old new : LinkView) (late : List LateChange) (place : ℕ) (change : LateChange) → Stays old new → All (IsDue old) late → place < length late → change ≡ slice_index_or late place change → IsDue new change
-may_be_done old new late place change stays all lt is = due_stays old new change stays (subst (IsDue old) (sym is) (all place change lt))
-
 -- a change that was kept with a note may be done
 pub kept_due : (link : LinkView) (pass note : Known Item) (event : LogEvent) (before : ℕ) → note ≡ record pass { word = None } → pass.board ≡ link.board → size_of event ≤ 33554432
     → MayFollow IsClosed link.board.words pass.lists link.service (Log event) → IsDue link (record { note = note; event = event; before = before })
@@ -50,47 +34,47 @@ kept_due link pass note event before is board short follows = record {
 pub more_due : (link : LinkView) (late more : List LateChange) (change : LateChange) → more ≡ late ++ change ∷ [] → All (IsDue link) late → IsDue link change → All (IsDue link) more
 more_due link late more change is all due = subst (All (IsDue link)) (sym is) (All-push (IsDue link) late change all due)
 
-without_one : (q : LateChange → Bool) (xs : List LateChange) (i : ℕ) (d : LateChange) → i < length xs → q (slice_index_or xs i d) ≡ false → filter q (remove xs i) ≡ filter q xs
-without_one q [] i d lt out = absurd (omega arith)
-without_one q (x ∷ xs) zero d lt out = ap (λ (b : Bool). cond b (x ∷ filter q xs) (filter q xs)) (sym out)
-without_one q (x ∷ xs) (suc i) d lt out = ap (λ (l : List LateChange). cond (q x) (x ∷ l) l) (without_one q xs i d (omega arith) out)
+kept_as : (call : ℕ) (old new : LateChange) (rest : List LateChange) → new.before ≡ old.before → (call < old.before → new ≡ old) → waiting call (new ∷ rest) ≡ waiting call (old ∷ rest)
+kept_as call old new rest before same = by (nat_lt call old.before) refl
+  where
+    by : (b : Bool) → nat_lt call old.before ≡ b → waiting call (new ∷ rest) ≡ waiting call (old ∷ rest)
+    by true is = ap (λ (change : LateChange). waiting call (change ∷ rest)) (same (grind (arith, nat_tests)))
+    by false is =
+        let gone : nat_lt call new.before ≡ false = ap (nat_lt call) before ∙ is in
+        ap (λ (b : Bool). cond b (new ∷ waiting call rest) (waiting call rest)) gone ∙ sym (ap (λ (b : Bool). cond b (old ∷ waiting call rest) (waiting call rest)) is)
 
-all_pass : (q : LateChange → Bool) (xs : List LateChange) → All (λ (x : LateChange). q x ≡ true) xs → filter q xs ≡ xs
-all_pass q [] all = refl
-all_pass q (x ∷ xs) all =
-    ap (λ (b : Bool). cond b (x ∷ filter q xs) (filter q xs)) (All-head (λ (x : LateChange). q x ≡ true) x xs all)
-    ∙ ap (λ (l : List LateChange). x ∷ l) (all_pass q xs (All-tail (λ (x : LateChange). q x ≡ true) x xs all))
+-- a change is put where one stood that is as late, and that is the same where it waits: the same changes wait
+pub waits_as : (call : ℕ) (late : List LateChange) (place : ℕ) (d new : LateChange) → place < length late → new.before ≡ (slice_index_or late place d).before → (call < (slice_index_or late place d).before → new ≡ slice_index_or late place d)
+    → waiting call (slice_set late place new) ≡ waiting call late
+waits_as call [] place d new lt before same = absurd (omega arith)
+waits_as call (x ∷ xs) zero d new lt before same = kept_as call x new xs before same
+waits_as call (x ∷ xs) (suc place) d new lt before same = ap (λ (l : List LateChange). cond (nat_lt call x.before) (x ∷ l) l) (waits_as call xs place d new (omega arith) before same)
 
-found : (call : ℕ) (seen late : List LateChange) (place : ℕ) → seen ≡ late → Some place ≡ position (λ (x : LateChange). nat_le x.before call) seen → position (λ (x : LateChange). nat_le x.before call) late ≡ Some place
-found call seen late place same at = sym (at ∙ ap (position (λ (x : LateChange). nat_le x.before call)) same)
+-- where all wait, the one at a place does
+pub all_wait : (call : ℕ) (late : List LateChange) (place : ℕ) (d : LateChange) → place < length late → waiting call late ≡ late → call < (slice_index_or late place d).before
+all_wait call late place d lt all =
+    let passes : All (λ (change : LateChange). nat_lt call change.before ≡ true) late =
+    subst (λ (l : List LateChange). All (λ (change : LateChange). nat_lt call change.before ≡ true) l) all (filter_passes (λ (change : LateChange). nat_lt call change.before) late) in
+    let waits : nat_lt call (slice_index_or late place d).before ≡ true = passes place d lt in
+    grind (arith, nat_tests)
 
-pub place_within : (call : ℕ) (seen late : List LateChange) (place : ℕ) (d : LateChange) → seen ≡ late → Some place ≡ position (λ (x : LateChange). nat_le x.before call) seen → place < length late
-place_within call seen late place d same at = (position-Some (λ (x : LateChange). nat_le x.before call) late place d (found call seen late place same at)).0
+pub waiting_due : (link : LinkView) (call : ℕ) (late rest : List LateChange) → rest ≡ waiting call late → All (IsDue link) late → All (IsDue link) rest
+waiting_due link call late rest is all = subst (All (IsDue link)) (sym is) (All-filter (λ (change : LateChange). nat_lt call change.before) (IsDue link) late all)
 
--- one that is due and was taken out does not wait
-pub waits_without : (call : ℕ) (seen late rest first : List LateChange) (place : ℕ) (change : LateChange) → seen ≡ late → Some place ≡ position (λ (x : LateChange). nat_le x.before call) seen → change ≡ slice_index_or late place change
-    → rest ≡ remove late place → waiting call late ≡ waiting call first → waiting call rest ≡ waiting call first
-waits_without call seen late rest first place change same at is taken waits =
-    let p = position-Some (λ (x : LateChange). nat_le x.before call) late place change (found call seen late place same at) in
-    let due : nat_le (slice_index_or late place change).before call ≡ true = p.1 in
-    ap (waiting call) taken ∙ without_one (λ (x : LateChange). nat_lt call x.before) late place change p.0 (grind (arith, nat_tests)) ∙ waits
+-- a change at a place says nothing of those behind it
+pub set_else : (late : List LateChange) (place k : ℕ) (d new : LateChange) → place < k → slice_index_or (slice_set late place new) k d ≡ slice_index_or late k d
+set_else [] place k d new lt = refl
+set_else (x ∷ xs) place zero d new lt = absurd (omega arith)
+set_else (x ∷ xs) zero (suc k) d new lt = refl
+set_else (x ∷ xs) (suc place) (suc k) d new lt = set_else xs place k d new (omega arith)
 
-none_step : (p : LateChange → Bool) (i : ℕ) (x : LateChange) (xs : List LateChange) (b : Bool) → p x ≡ b → (position_from p (i + 1) xs ≡ None → All (λ (y : LateChange). p y ≡ false) xs)
-    → cond b (Some i) (position_from p (i + 1) xs) ≡ None → All (λ (y : LateChange). p y ≡ false) (x ∷ xs)
-none_step p i x xs true is rest h = absurd (let q : Some i ≡ None = h in cc)
-none_step p i x xs false is rest h = All-cons (λ (y : LateChange). p y ≡ false) x xs is (rest h)
+all_taken : (n : ℕ) (late rest : List LateChange) → n ≡ length late → take n (late ++ rest) ≡ late
+all_taken n late rest is = ap (λ (m : ℕ). take m (late ++ rest)) is ∙ all late
+  where
+    all : (xs : List LateChange) → take (length xs) (xs ++ rest) ≡ xs
+    all [] = refl
+    all (x ∷ xs) = ap (λ (l : List LateChange). x ∷ l) (all xs)
 
-none_from : (p : LateChange → Bool) (i : ℕ) (xs : List LateChange) → position_from p i xs ≡ None → All (λ (x : LateChange). p x ≡ false) xs
-none_from p i [] h = λ k d lt. absurd (omega arith)
-none_from p i (x ∷ xs) h = none_step p i x xs (p x) refl (λ rest. none_from p (i + 1) xs rest) h
-
-waits_if : (call : ℕ) (change : LateChange) → nat_le change.before call ≡ false → nat_lt call change.before ≡ true
-waits_if call change h = grind (arith, nat_tests)
-
--- where none is due all wait
-pub all_wait : (call : ℕ) (seen late first : List LateChange) → seen ≡ late → None ≡ position (λ (x : LateChange). nat_le x.before call) seen → waiting call late ≡ waiting call first → late ≡ waiting call first
-all_wait call seen late first same at waits =
-    let none = sym (at ∙ ap (position (λ (x : LateChange). nat_le x.before call)) same) in
-    let all = none_from (λ (x : LateChange). nat_le x.before call) 0 late (sym (position_from-zero (λ (x : LateChange). nat_le x.before call) late) ∙ none) in
-    sym (all_pass (λ (x : LateChange). nat_lt call x.before) late
-    (All-weaker (λ (x : LateChange). nat_le x.before call ≡ false) (λ (x : LateChange). nat_lt call x.before ≡ true) (waits_if call) late all)) ∙ waits
+-- those that wait of the changes, which stand at the front of a vector's memory
+pub those_kept : (n call : ℕ) (late first rest kept : List LateChange) → kept ≡ waiting call (take n (late ++ rest)) → n ≡ length late → waiting call late ≡ waiting call first → kept ≡ waiting call first
+those_kept n call late first rest kept is whole waits = is ∙ (ap (waiting call) (all_taken n late rest whole) ∙ waits)

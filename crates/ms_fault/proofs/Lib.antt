@@ -1,3 +1,4 @@
+pub mod Inside
 pub mod Lateness
 pub mod Passing
 pub mod Reading

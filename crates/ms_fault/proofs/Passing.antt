@@ -3,6 +3,7 @@ use Rattle.std.proofs.Common.{◌≡◌, ℕ, ◌≤◌, ◌&&◌, Bool, true, f
 use Rattle.ms_base.specs.Counts.{Rose}
 use Rattle.ms_base.specs.Memory.{one_more}
 use Rattle.ms_core.specs.Views.{IsClosed}
+use Rattle.ms_fault.proofs.Inside.{stays_on, later_link, rose_before, stale_before, both_first, rose_is, stale_inside}
 use Rattle.ms_fault.specs.Changes.{Changes}
 use Rattle.ms_fault.specs.declared.fault.Fault.{Fault}
 use Rattle.ms_fault.specs.declared.fault.Fault.TheVariants as faults
@@ -31,12 +32,6 @@ follows_on old new lists more event stays begins h =
     subst (λ (link : LinkView). MayFollow IsClosed link.board.words more link.service (Log event)) (sym stays.same)
     (may_follow_later IsClosed old.board.words lists more old.service (Log event) begins h)
 
-pub stays_then : (old mid new : LinkView) → Stays old mid → Stays mid new → Stays old new
-stays_then old mid new one other = record {
-  same = other.same ∙ ap (λ (link : LinkView). let l : LinkView = record link { faults = new.faults } in l) one.same;
-  later = omega (arith, one.later, other.later);
-}
-
 own_on : (one other : Option ℕ) (a b c : List (List Item)) → other ≡ one → IfSome one (λ k. list_at b k ≡ list_at a k) → IfSome other (λ k. list_at c k ≡ list_at b k) → IfSome one (λ k. list_at c k ≡ list_at a k)
 own_on one other a b c same h k = both one h (subst (λ (o : Option ℕ). IfSome o (λ k. list_at c k ≡ list_at b k)) same k)
   where
@@ -53,12 +48,6 @@ learns_on old mid new one other = record {
 }
 
 -- ---- what a change leaves, seen from an earlier moment
-
-rose_before : (a b c : ℕ) → a ≤ b → Rose b c → Rose a c
-rose_before a b c le rose = grind arith
-
-later_link : LinkView → ℕ → LinkView
-later_link link faults = record link { faults = faults }
 
 added_before : (link : LinkView) (faults : ℕ) (before mid after : Known Item) (event : LogEvent) → Learns before mid → IsAdded (later_link link faults) mid after event → IsAdded link before after event
 unfolding later_link
@@ -80,7 +69,7 @@ puts_before : (link after : LinkView) (faults : ℕ) (k0 k1 k2 : Known Item) (ge
 unfolding later_link
 puts_before link after faults k0 k1 k2 generation event (Ok u) le learns h = (λ lists. added_before link faults k0 k1 k2 event learns (h.0 lists), h.1)
 puts_before link after faults k0 k1 k2 generation event (Err errors.Failed) le learns h = rose_before link.faults faults after.faults le h
-puts_before link after faults k0 k1 k2 generation event (Err (errors.Stale floor)) le learns h = record { below = h.below; dropped = h.dropped; greatest = h.greatest }
+puts_before link after faults k0 k1 k2 generation event (Err (errors.Stale floor)) le learns h = stale_before link faults k2 generation floor h
 puts_before link after faults k0 k1 k2 generation event (Err errors.NoMemory) le learns h = tt
 
 by_event : (link after : LinkView) (faults : ℕ) (k0 k1 k2 : Known Item) (event : LogEvent) (r : Result Unit LinkError) → link.faults ≤ faults → Learns k0 k1 → Changes (later_link link faults) after k1 k2 event r → Changes link after k0 k2 event r
@@ -108,25 +97,15 @@ changes_later link later after k0 k1 event r stays h = changes_before link later
 added_inside : (f : FaultView) (before after : Known Item) (event : LogEvent) → IsAdded f.inner before after event → IsAdded (link_of f) before after event
 added_inside f before after event h = record { place = h.place; behind = h.behind; stands = h.stands }
 
-both_true : (a b : Bool) → (a && b) ≡ true → a ≡ true
-both_true true b h = refl
-both_true false b h = h
-
-rose_is : (a b : ℕ) → b ≡ one_more a → Rose a b
-rose_is a b is = grind arith
-
 tells_inside : (old new : FaultView) (k0 k1 : Known Item) (event : LogEvent) (r : Result Unit LinkError) → new.faults ≡ faults_after old.faults r → Tells old.inner new.inner k0 k1 event r → Tells (link_of old) (link_of new) k0 k1 event r
 tells_inside old new k0 k1 event (Ok u) count h = λ lists. added_inside old k0 k1 event (h lists)
 tells_inside old new k0 k1 event (Err errors.Failed) count h = rose_is old.faults new.faults count
 tells_inside old new k0 k1 event (Err (errors.Stale floor)) count h = h
 tells_inside old new k0 k1 event (Err errors.NoMemory) count h = tt
 
-stale_inside : (f : FaultView) (after : Known Item) (generation floor : ℕ) → IsStale f.inner after generation floor → IsStale (link_of f) after generation floor
-stale_inside f after generation floor h = record { below = h.below; dropped = h.dropped; greatest = h.greatest }
-
 puts_inside : (old new : FaultView) (k0 k1 : Known Item) (generation : ℕ) (event : LogEvent) (r : Result Unit LinkError) → new.faults ≡ faults_after old.faults r → Puts old.inner new.inner k0 k1 generation event r
     → Puts (link_of old) (link_of new) k0 k1 generation event r
-puts_inside old new k0 k1 generation event (Ok u) count h = (λ lists. added_inside old k0 k1 event (h.0 lists), λ lists objects. h.1 lists (both_true old.inner.objects _ objects))
+puts_inside old new k0 k1 generation event (Ok u) count h = (λ lists. added_inside old k0 k1 event (h.0 lists), λ lists objects. h.1 lists (both_first old.inner.objects _ objects))
 puts_inside old new k0 k1 generation event (Err errors.Failed) count h = rose_is old.faults new.faults count
 puts_inside old new k0 k1 generation event (Err (errors.Stale floor)) count h = stale_inside old k1 generation floor h
 puts_inside old new k0 k1 generation event (Err errors.NoMemory) count h = tt

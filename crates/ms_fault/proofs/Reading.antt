@@ -4,6 +4,7 @@ use Rattle.std.specs.List.{list_all}
 use Rattle.ms_base.specs.Counts.{Rose}
 use Rattle.ms_base.specs.Memory.{one_more}
 use Rattle.ms_base.specs.declared.names.Name.{Name}
+use Rattle.ms_fault.proofs.Inside.{later_link, rose_before, stale_before, both_first, rose_is, stale_inside}
 use Rattle.ms_fault.specs.declared.fault.Fault.{Fault}
 use Rattle.ms_fault.specs.declared.fault.Fault.TheVariants as faults
 use Rattle.ms_fault.specs.Faults.{FaultView, link_of, due, shows_kept, faults_after, HasBy, GetsBy}
@@ -12,10 +13,6 @@ use Rattle.ms_link.specs.declared.fault.LinkError.{LinkError}
 use Rattle.ms_link.specs.declared.fault.LinkError.TheVariants as errors
 use Rattle.ms_link.specs.Links.{LinkView, Stays, IsStale, Lists, Has, Gets}
 use Rattle.ms_record.specs.declared.item.Item.{Item}
-
-both_first : (a b : Bool) → (a && b) ≡ true → a ≡ true
-both_first true b h = refl
-both_first false b h = h
 
 both_second : (a b : Bool) → (a && b) ≡ true → b ≡ true
 both_second true b h = h
@@ -33,16 +30,6 @@ due_shows f objects =
     at_shows f.script f.rest f.at (both_first (list_all shows_kept f.script) (shows_kept f.rest) all) (both_second (list_all shows_kept f.script) (shows_kept f.rest) all)
 
 -- ---- the answers of the link inside, seen from an earlier moment
-
-later_link : LinkView → ℕ → LinkView
-later_link link faults = record link { faults = faults }
-
-rose_before : (a b c : ℕ) → a ≤ b → Rose b c → Rose a c
-rose_before a b c le rose = grind arith
-
-stale_before : (link : LinkView) (faults : ℕ) (after : Known Item) (generation floor : ℕ) → IsStale (later_link link faults) after generation floor → IsStale link after generation floor
-unfolding later_link
-stale_before link faults after generation floor h = record { below = h.below; dropped = h.dropped; greatest = h.greatest }
 
 lists_before : (link after : LinkView) (faults : ℕ) (known : Known Item) (list from : ℕ) (r : Result (List (List ℕ)) LinkError) → link.faults ≤ faults → Lists (later_link link faults) after known list from r → Lists link after known list from r
 unfolding later_link
@@ -81,12 +68,6 @@ unfolding later_link
 gets_later link later after known generation name r stays h = gets_before link after later.faults known generation name r stays.later (subst (λ (l : LinkView). Gets l after known generation name r) stays.same h)
 
 -- ---- the answers of the link inside, as the link's with faults
-
-rose_is : (a b : ℕ) → b ≡ one_more a → Rose a b
-rose_is a b is = grind arith
-
-stale_inside : (f : FaultView) (after : Known Item) (generation floor : ℕ) → IsStale f.inner after generation floor → IsStale (link_of f) after generation floor
-stale_inside f after generation floor h = record { below = h.below; dropped = h.dropped; greatest = h.greatest }
 
 pub lists_inside : (old new : FaultView) (known : Known Item) (list from : ℕ) (r : Result (List (List ℕ)) LinkError) → new.faults ≡ faults_after old.faults r → Lists old.inner new.inner known list from r → Lists (link_of old) (link_of new) known list from r
 lists_inside old new known list from (Ok texts) count h = λ lists. h lists

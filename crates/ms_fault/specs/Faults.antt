@@ -58,6 +58,10 @@ pub record IsNext (old new : FaultView) : Type 0 where
 abbrev pub still_late : FaultView → List LateChange
 still_late f = waiting (one_more f.calls) f.late
 
+-- nobody was asked: where no late change was done before this call, the link inside is as it was
+abbrev pub IsIdle : FaultView → FaultView → Type 0
+IsIdle old new = still_late old ≡ old.late → new.inner ≡ old.inner
+
 -- what waits behind a change under this fault: one that is late waits with what its caller knew
 abbrev pub LateBy : Fault → FaultView → FaultView → Known Item → LogEvent → Result Unit LinkError → Type 0
 LateBy (faults.Late later) old new before event (Err errors.Failed) = new.late ≡ still_late old ++ sent_late new.calls before event later ∷ []
@@ -81,25 +85,25 @@ faults_after n (Err errors.Failed) = one_more n
 faults_after n (Err (errors.Stale floor)) = n
 faults_after n (Err errors.NoMemory) = n
 
--- a change under this fault: it fails, or it is answered as the link inside does
+-- a change under this fault: it fails, and nobody was asked where it is lost or late; or it is answered as the link inside does
 abbrev pub ChangesBy : Fault → FaultView → FaultView → Known Item → Known Item → LogEvent → Result Unit LinkError → Type 0
-ChangesBy faults.Lose old new before after event result = (result ≡ Err errors.Failed) × (after ≡ before)
+ChangesBy faults.Lose old new before after event result = (result ≡ Err errors.Failed) × (after ≡ before) × IsIdle old new
 ChangesBy faults.ActThenFail old new before after event result = result ≡ Err errors.Failed
-ChangesBy (faults.Late later) old new before after event result = ((result ≡ Err errors.Failed) ⊎ (result ≡ Err errors.NoMemory)) × (after ≡ before)
+ChangesBy (faults.Late later) old new before after event result = ((result ≡ Err errors.Failed) ⊎ (result ≡ Err errors.NoMemory)) × (after ≡ before) × IsIdle old new
 ChangesBy _ old new before after event result = Changes old.inner new.inner before after event result
 
--- a call that reads, under this fault: it fails, or it is answered as the link inside does
-abbrev pub ReadsBy : {A : Type 0} → Fault → Type 0 → Known Item → Known Item → Result A LinkError → Type 0
-ReadsBy faults.Lose Inside before after result = (result ≡ Err errors.Failed) × (after ≡ before)
-ReadsBy faults.ActThenFail Inside before after result = result ≡ Err errors.Failed
-ReadsBy _ Inside before after result = Inside
+-- a call that reads, under this fault: it fails, and nobody was asked where it is lost; or it is answered as the link inside does
+abbrev pub ReadsBy : {A : Type 0} → Fault → Type 0 → FaultView → FaultView → Known Item → Known Item → Result A LinkError → Type 0
+ReadsBy faults.Lose Inside old new before after result = (result ≡ Err errors.Failed) × (after ≡ before) × IsIdle old new
+ReadsBy faults.ActThenFail Inside old new before after result = result ≡ Err errors.Failed
+ReadsBy _ Inside old new before after result = Inside
 
 abbrev pub ListsBy : Fault → FaultView → FaultView → Known Item → Known Item → ℕ → ℕ → Result (List (List ℕ)) LinkError → Type 0
-ListsBy fault old new before after list from result = ReadsBy fault (Lists old.inner new.inner after list from result) before after result
+ListsBy fault old new before after list from result = ReadsBy fault (Lists old.inner new.inner after list from result) old new before after result
 
 abbrev pub HasBy : Fault → FaultView → FaultView → Known Item → Known Item → ℕ → Name → Result Bool LinkError → Type 0
-HasBy faults.Gone old new before after generation name result = (result ≡ Ok false) × (after ≡ before)
-HasBy fault old new before after generation name result = ReadsBy fault (Has old.inner new.inner after generation name result) before after result
+HasBy faults.Gone old new before after generation name result = (result ≡ Ok false) × (after ≡ before) × IsIdle old new
+HasBy fault old new before after generation name result = ReadsBy fault (Has old.inner new.inner after generation name result) old new before after result
 
 -- the lowest bit of the last byte is flipped; an empty text becomes one zero byte
 abbrev pub IsAltered : List ℕ → List ℕ → Type 0
@@ -113,6 +117,6 @@ AltersBy old new after generation name (Ok None) = Gets old.inner new.inner afte
 AltersBy old new after generation name (Err e) = Gets old.inner new.inner after generation name (Err e)
 
 abbrev pub GetsBy : Fault → FaultView → FaultView → Known Item → Known Item → ℕ → Name → Result (Option (List ℕ)) LinkError → Type 0
-GetsBy faults.Gone old new before after generation name result = (result ≡ Ok None) × (after ≡ before)
+GetsBy faults.Gone old new before after generation name result = (result ≡ Ok None) × (after ≡ before) × IsIdle old new
 GetsBy faults.Alter old new before after generation name result = AltersBy old new after generation name result
-GetsBy fault old new before after generation name result = ReadsBy fault (Gets old.inner new.inner after generation name result) before after result
+GetsBy fault old new before after generation name result = ReadsBy fault (Gets old.inner new.inner after generation name result) old new before after result

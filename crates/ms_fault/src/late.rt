@@ -1,6 +1,6 @@
 //! Changes that are done later.
 
-ghost use Rattle.std.specs.Prelude.{◌≡◌, All, nat_le, position};
+ghost use Rattle.std.specs.Prelude.{◌≡◌, ◌<◌, All};
 ghost use Rattle.ms_fault.specs.Late.{IsDue, waiting};
 ghost use Rattle.ms_link.specs.Links.{Stays};
 
@@ -18,19 +18,24 @@ pub struct LateChange {
     pub before: u64,
 }
 
-/// The first change that is done before this call.
-fn first_due(late: &[LateChange], call: u64) -> Option<usize>
-    ensures { result ≡ position (λ change. nat_le change.before call) late.now }
-{
-    late.iter().position(|change| change.before <= call)
-}
-
-/// Does a change with the note that it was sent with.
-fn do_late<L: Link<FoldClosed>>(link: &mut L, alloc: Global, board: &Common, mut change: LateChange)
+/// Does the change with the note that it was sent with, where it is done before this call.
+fn do_due<L: Link<FoldClosed>>(
+    link: &mut L,
+    alloc: Global,
+    board: &Common,
+    change: &mut LateChange,
+    call: u64,
+)
     requires board { board.now ≡ (L.sees link.old).board }
-    requires due { IsDue (L.sees link.old) change }
-    ensures { Stays (L.sees link.old) (L.sees link.new) }
+    requires due { IsDue (L.sees link.old) change.old }
+    ensures before { change.new.before ≡ change.old.before }
+    ensures waits { call < change.old.before → change.new ≡ change.old }
+    ensures idle { call < change.old.before → L.sees link.new ≡ L.sees link.old }
+    ensures link { Stays (L.sees link.old) (L.sees link.new) }
 {
+    if change.before > call {
+        return;
+    }
     let _ = send(
         link,
         alloc,
@@ -52,10 +57,11 @@ pub(crate) fn catch_up<L: Link<FoldClosed>>(
     requires due { All (IsDue (L.sees link.old)) late.old.items }
     ensures due { All (IsDue (L.sees link.old)) late.new.items }
     ensures waiting { late.new.items ≡ waiting call late.old.items }
+    ensures idle { waiting call late.old.items ≡ late.old.items → L.sees link.new ≡ L.sees link.old }
     ensures link { Stays (L.sees link.old) (L.sees link.new) }
 {
-    while let Some(place) = first_due(late.as_slice(), call) {
-        let change = late.remove(place);
-        do_late(link, alloc, board, change);
+    for change in late.iter_mut() {
+        do_due(link, alloc, board, change, call);
     }
+    late.retain(|change| change.before > call);
 }

@@ -4,7 +4,7 @@ ghost use Rattle.std.specs.Prelude.{◌≡◌, ◌≤◌, ◌⊎◌, ◌++◌, �
 ghost use Rattle.ms_base.specs.Memory.{one_more};
 ghost use Rattle.ms_core.specs.Views.{IsClosed};
 ghost use Rattle.ms_fault.specs.Changes.{event_of, size_of, Changes};
-ghost use Rattle.ms_fault.specs.Faults.{due, link_of, still_late, faults_after, IsActed, IsCalled, IsNext, ChangesBy, LateBy};
+ghost use Rattle.ms_fault.specs.Faults.{due, link_of, still_late, faults_after, IsActed, IsCalled, IsIdle, IsNext, ChangesBy, LateBy};
 ghost use Rattle.ms_fault.specs.Late.{sent_late};
 ghost use Rattle.ms_ken.specs.Lists.{MayFollow};
 ghost use Rattle.ms_link.specs.declared.fault.LinkError.TheVariants as errors;
@@ -67,6 +67,7 @@ impl<L: Link<FoldClosed>> FaultLink<L> {
         ensures fault { result ≡ due self.old }
         ensures next { IsNext self.old self.new }
         ensures late { self.new.late ≡ still_late self.old }
+        ensures idle { IsIdle self.old self.new }
         ensures faults { self.new.faults ≡ self.old.faults }
     {
         self.calls = self.calls.saturating_add(1);
@@ -150,6 +151,7 @@ impl<L: Link<FoldClosed>> FaultLink<L> {
         ensures fault { (result ≡ errors.Failed) ⊎ (result ≡ errors.NoMemory) }
         ensures waits { result ≡ errors.Failed → self.new ≡ record self.old { late = self.old.late ++ sent_late self.old.calls pass.old (event_of change.entry) after ∷ []; faults = one_more self.old.faults } }
         ensures lost { result ≡ errors.NoMemory → self.new ≡ self.old }
+        ensures idle { self.new.inner ≡ self.old.inner }
         ensures later { self.old.faults ≤ self.new.faults }
         ensures pass { pass.new ≡ pass.old }
     {

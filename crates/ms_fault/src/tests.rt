@@ -250,6 +250,78 @@ fn nested_on<J: Naming, R: Wait + Abort + Drop + Copy>(
     Ok(())
 }
 
+/// A link over one that loses its first four calls: reads whose answers are lost are asked inside, those that are lost or that
+/// find nothing are not.
+fn asked_on<J: Naming, R: Wait + Abort + Drop + Copy>(
+    rt: R,
+    alloc: Global,
+    board: &Common,
+    passes: Vec<Know>,
+) -> Result<(), Fail>
+    requires board { board.now ≡ J.board }
+    requires passes { ArePasses board.now 33 passes.items }
+{
+    let four = vec![in alloc; Fault::Lose, Fault::Lose, Fault::Lose, Fault::Lose]?;
+    let script = vec![in alloc;
+        Fault::ActThenFail,
+        Fault::ActThenFail,
+        Fault::ActThenFail,
+        Fault::Lose,
+        Fault::Lose,
+        Fault::Lose,
+        Fault::Gone,
+        Fault::Gone,
+    ]?;
+    let (home, mut pass) = home::<J>(alloc, board, passes)?;
+    let inner = FaultLink::new(alloc, MemoryLink::new(rt, home), four, Fault::Pass);
+    let mut link = FaultLink::new(alloc, inner, script, Fault::Pass);
+    for _ in 0..2u8 {
+        assert!(&rt; has(alloc, board, &mut pass, &mut link).is_err());
+        assert!(&rt; get(alloc, board, &mut pass, &mut link).is_err());
+        assert!(&rt; list(alloc, board, &mut pass, &mut link).is_err());
+    }
+    assert!(&rt; !has(alloc, board, &mut pass, &mut link)?);
+    assert!(&rt; get(alloc, board, &mut pass, &mut link)?.is_none());
+    assert_eq!(&rt; link.faults(), 6);
+    let failed = Err(LinkError::Failed);
+    assert_eq!(&rt; has(alloc, board, &mut pass, &mut link), failed);
+    assert_eq!(&rt; has(alloc, board, &mut pass, &mut link), Ok(false));
+    assert_eq!(&rt; link.faults(), 7);
+    Ok(())
+}
+
+/// Appends that are late by three calls, by one and by one, so that two of them are done before one call; and two under faults
+/// that do not speak of appends.
+fn order_on<J: Naming, R: Wait + Abort + Drop + Copy>(
+    rt: R,
+    alloc: Global,
+    board: &Common,
+    passes: Vec<Know>,
+) -> Result<(), Fail>
+    requires board { board.now ≡ J.board }
+    requires passes { ArePasses board.now 33 passes.items }
+{
+    let script = vec![in alloc;
+        Fault::Late { after: 3 },
+        Fault::Late { after: 1 },
+        Fault::Late { after: 1 },
+        Fault::Alter,
+        Fault::Gone,
+    ]?;
+    let (home, mut pass) = home::<J>(alloc, board, passes)?;
+    let mut link = FaultLink::new(alloc, MemoryLink::new(rt, home), script, Fault::Pass);
+    let failed = Err(LinkError::Failed);
+    assert_eq!(&rt; append(alloc, board, &mut pass, &mut link, 1), failed);
+    assert_eq!(&rt; append(alloc, board, &mut pass, &mut link, 2), failed);
+    assert_eq!(&rt; append(alloc, board, &mut pass, &mut link, 3), failed);
+    assert_eq!(&rt; append(alloc, board, &mut pass, &mut link, 4), Ok(()));
+    assert_eq!(&rt; append(alloc, board, &mut pass, &mut link, 5), Ok(()));
+    let texts = list(alloc, board, &mut pass, &mut link)?;
+    let bytes = joined(alloc, &texts)?;
+    assert!(&rt; bytes.as_slice() == [2, 1, 3, 4, 5].as_slice());
+    Ok(())
+}
+
 /// A put and a drop that are late by two calls and by one, and reads that fail.
 fn late_on<J: Naming, R: Wait + Abort + Drop + Copy>(
     rt: R,
@@ -321,4 +393,16 @@ fn late_puts_and_drops(rt: HostRuntime) -> Result<(), Fail> {
 fn repeats_over_lost_calls(rt: HostRuntime) -> Result<(), Fail> {
     let (board, passes) = Board::<FoldClosed>::new(rt.alloc(), 33)?;
     nested_on::<Brand, _>(rt, rt.alloc(), &board, passes)
+}
+
+#[test]
+fn which_reads_are_asked_inside(rt: HostRuntime) -> Result<(), Fail> {
+    let (board, passes) = Board::<FoldClosed>::new(rt.alloc(), 33)?;
+    asked_on::<Brand, _>(rt, rt.alloc(), &board, passes)
+}
+
+#[test]
+fn late_changes_in_the_order_of_sending(rt: HostRuntime) -> Result<(), Fail> {
+    let (board, passes) = Board::<FoldClosed>::new(rt.alloc(), 33)?;
+    order_on::<Brand, _>(rt, rt.alloc(), &board, passes)
 }

@@ -1,16 +1,17 @@
 //! A link to a service in memory.
 
-ghost use Rattle.std.specs.Prelude.{◌≡◌, ℕ};
+ghost use Rattle.std.specs.Prelude.{◌≡◌, ℕ, IfOk};
 ghost use Rattle.std.specs.Arc.{arc_value};
 ghost use Rattle.ms_base.specs.Counts.{Rose};
-ghost use Rattle.ms_core.specs.Views.{IsClosed};
+ghost use Rattle.ms_core.specs.Floors.{IsFloor};
+ghost use Rattle.ms_core.specs.Views.{IsClosed, log_in};
 ghost use Rattle.ms_ken.specs.Lists.{MayFollow};
 ghost use Rattle.ms_link.specs.Links.{Learns};
 ghost use Rattle.ms_memory.specs.Served.{Changes};
 ghost use Rattle.ms_record.specs.declared.item.Item.TheVariants.{Log};
 
 use crate::service::MemoryService;
-use ms_base::{Bytes, Name, ServiceId};
+use ms_base::{Bytes, Name, NoMemory, ServiceId};
 use ms_core::{Common, FoldClosed, Know};
 use ms_ken::Naming;
 use ms_link::{Link, LinkError, Texts};
@@ -42,6 +43,21 @@ impl<R: Wait, J: Naming> MemoryLink<R, J> {
         ensures { result ≡ arc_value home }
     {
         MemoryLink { rt, home }
+    }
+
+    /// The service's floor, by the log that the pass then knows, under the lock. `NoMemory` where the lock's value had another number.
+    fn floor(&self, board: &Common, pass: &mut Know) -> Result<u32, NoMemory>
+        requires board { (board.now ≡ J.board) × (pass.old.board ≡ J.board) }
+        ensures floor { IfOk result (IsFloor (log_in pass.new.lists self.now)) }
+        ensures pass { Learns pass.old pass.new }
+    {
+        let mut guard = self.home.state.lock(&self.rt);
+        let state = &mut *guard;
+        if !self.home.has_number(state.service()) {
+            return Err(NoMemory);
+        }
+        state.show(board, pass);
+        Ok(state.floor())
     }
 
     /// Adds the event to the service's log, under its lock. `NoMemory` also where the lock's value had another number.
@@ -117,6 +133,10 @@ impl<R: Wait, J: Naming> Link<FoldClosed> for MemoryLink<R, J> {
         name: &Name,
         text: &[u8],
     ) -> Result<(), LinkError> {
+        let floor = self.floor(board, pass)?;
+        if generation < floor {
+            return Err(LinkError::Stale { floor });
+        }
         let event = LogEvent::Put {
             generation,
             name: *name,

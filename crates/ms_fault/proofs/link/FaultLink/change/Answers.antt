@@ -1,5 +1,6 @@
 use Rattle.std.proofs.Common.{sym, ◌∙◌, subst}
-use Rattle.ms_fault.proofs.Passing.{follows_on, stays_then, changes_before, changes_later, learns_on, passed}
+use Rattle.ms_fault.proofs.Inside.{stays_on}
+use Rattle.ms_fault.proofs.Passing.{follows_on, changes_before, changes_later, learns_on, passed}
 use Rattle.ms_fault.specs.Changes.{event_of}
 use Rattle.ms_fault.specs.declared.fault.Fault.{Fault}
 use Rattle.ms_fault.specs.Faults.{ChangesBy}
@@ -27,7 +28,7 @@ pub returns-in-Repeat-clause-script : goal.returns-in-Repeat-clause-script
 returns-in-Repeat-clause-script g c =
     subst (λ (fault : Fault). ChangesBy fault c.args.self.now c.pass_on.new.self c.args.pass.now c.pass_on.new.pass (event_of c.args.change) c.pass_on.result) (sym c.in-Repeat.is ∙ c.meet.ensures.fault)
     (changes_before c.args.self.now.inner c.act-in-Repeat.new.self.inner c.pass_on.new.self.inner c.args.pass.now c.act-in-Repeat.new.pass c.pass_on.new.pass (event_of c.args.change) c.pass_on.result
-    (stays_then c.args.self.now.inner c.meet.new.self.inner c.act-in-Repeat.new.self.inner c.meet.ensures.next.inner c.act-in-Repeat.ensures.acted.inner)
+    (stays_on c.args.self.now.inner c.meet.new.self.inner c.act-in-Repeat.new.self.inner c.meet.ensures.next.inner c.act-in-Repeat.ensures.acted.inner)
     c.act-in-Repeat.ensures.pass c.pass_on.ensures.changes)
 
 pub returns-in-Repeat-clause-pass : goal.returns-in-Repeat-clause-pass
