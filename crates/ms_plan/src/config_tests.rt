@@ -202,8 +202,12 @@ fn clients_outside_the_grammar(rt: HostRuntime) -> Result<(), Fail> {
         "{\"client\":null}\n",
         "{\"client\":\"eve\",\"capacity\":1000}\n",
         "{\"service\":\"s4\",\"capacity\":1000}\n",
+        "{\"client\":\"\\u0061nn\"}\n",
+        "\u{feff}{\"client\":\"eve\"}\n",
+        "{\"client\":\"eve\",\"client\":\"ann\"}\n",
         "null\n",
         "\r\n",
+        "\n",
     ] {
         let clients = format!(in alloc; "{CLIENTS}{client}")?;
         let text = joined(alloc, HEAD, SERVICES, clients.as_str())?;
@@ -216,6 +220,21 @@ fn clients_outside_the_grammar(rt: HostRuntime) -> Result<(), Fail> {
     assert_eq!(rt; wrong_line(alloc, HEAD.as_bytes()), 2);
     let text = joined(alloc, HEAD, SERVICES, "{\"client\":\"eve\"}")?;
     assert_eq!(rt; wrong_line(alloc, text.as_bytes()), 0);
+    Ok(())
+}
+
+#[test]
+fn clients_in_other_spellings(rt: HostRuntime) -> Result<(), Fail> {
+    let alloc = rt.alloc();
+    for client in [
+        "{\"client\":\"s1\"}\n",
+        "{\"\\u0063lient\":\"\\u0065ve\"}\n",
+        "\t{\"client\":\"ann\", \"client\":\"eve\" } \r\n",
+    ] {
+        let clients = format!(in alloc; "{CLIENTS}{client}")?;
+        let text = joined(alloc, HEAD, SERVICES, clients.as_str())?;
+        assert_eq!(rt; wrong_line(alloc, text.as_bytes()), 0, "{client}");
+    }
     Ok(())
 }
 

@@ -1,6 +1,6 @@
 //! Orders that were known before: `bench/mapping_reference.py` computes them.
 
-use crate::Table;
+use crate::{Table, orders_are_sorted, stability};
 use ms_base::{Name, ServiceId};
 use ms_record::{Plan, PlanRow};
 use std::alloc::Global;
@@ -128,6 +128,9 @@ fn orders_of_sixteen_services(rt: HostRuntime) -> Result<(), Fail> {
 
 #[test]
 fn orders_without_a_service(rt: HostRuntime) -> Result<(), Fail> {
+    // The laws ask nothing of their caller, and a call of them does nothing when the program runs.
+    orders_are_sorted();
+    stability();
     let alloc = rt.alloc();
     let rows = [row(0, 1000), row(3, 5000), row(4, 2999), row(15, 16000)];
     let four = table(alloc, 2, 1000, &rows)?;
