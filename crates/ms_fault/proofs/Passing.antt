@@ -1,9 +1,8 @@
 -- What a call of the link inside says of the link with faults.
-use Rattle.std.proofs.Common.{◌≡◌, ℕ, ◌≤◌, ◌&&◌, Bool, true, false, List, Option, Some, None, Result, Ok, Err, IfSome, refl, sym, ap, ◌∙◌, subst, ◌⊎◌, inl, inr, arith}
+use Rattle.std.proofs.Common.{◌≡◌, ℕ, ◌≤◌, List, Option, Some, None, Result, Ok, Err, IfSome, refl, sym, ap, ◌∙◌, subst, ◌⊎◌, inl, inr, arith}
 use Rattle.ms_base.specs.Counts.{Rose}
-use Rattle.ms_base.specs.Memory.{one_more}
 use Rattle.ms_core.specs.Views.{IsClosed}
-use Rattle.ms_fault.proofs.Inside.{stays_on, later_link, rose_before, stale_before, both_first, rose_is, stale_inside}
+use Rattle.ms_fault.proofs.Inside.{later_link, rose_before, stale_before, both_first, rose_is, stale_inside}
 use Rattle.ms_fault.specs.Changes.{Changes}
 use Rattle.ms_fault.specs.declared.fault.Fault.{Fault}
 use Rattle.ms_fault.specs.declared.fault.Fault.TheVariants as faults
@@ -14,7 +13,7 @@ use Rattle.ms_ken.specs.Prefixes.{prefix_length}
 use Rattle.ms_ken.specs.Rows.{begins_self, begins_trans, may_follow_later}
 use Rattle.ms_link.specs.declared.fault.LinkError.{LinkError}
 use Rattle.ms_link.specs.declared.fault.LinkError.TheVariants as errors
-use Rattle.ms_link.specs.Links.{LinkView, Stays, Learns, IsAdded, IsStale, Tells, Puts}
+use Rattle.ms_link.specs.Links.{LinkView, Stays, Learns, IsAdded, Tells, Puts}
 use Rattle.ms_record.specs.declared.item.Item.{Item}
 use Rattle.ms_record.specs.declared.item.Item.TheVariants.{Log}
 use Rattle.ms_record.specs.declared.log.LogEvent.{LogEvent}

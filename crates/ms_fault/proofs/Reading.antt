@@ -1,8 +1,6 @@
 -- What a reading call of the link inside says of the link with faults.
-use Rattle.std.proofs.Common.{◌≡◌, ℕ, zero, suc, ◌≤◌, ◌&&◌, Bool, true, false, List, [], ◌∷◌, Option, Some, None, Result, Ok, Err, refl, sym, ap, ◌∙◌, subst, slice_index_or, arith}
+use Rattle.std.proofs.Common.{◌≡◌, ℕ, zero, suc, ◌≤◌, ◌&&◌, Bool, true, false, List, [], ◌∷◌, Option, Some, None, Result, Ok, Err, refl, sym, ap, ◌∙◌, subst, slice_index_or}
 use Rattle.std.specs.List.{list_all}
-use Rattle.ms_base.specs.Counts.{Rose}
-use Rattle.ms_base.specs.Memory.{one_more}
 use Rattle.ms_base.specs.declared.names.Name.{Name}
 use Rattle.ms_fault.proofs.Inside.{later_link, rose_before, stale_before, both_first, rose_is, stale_inside}
 use Rattle.ms_fault.specs.declared.fault.Fault.{Fault}
@@ -11,7 +9,7 @@ use Rattle.ms_fault.specs.Faults.{FaultView, link_of, due, shows_kept, faults_af
 use Rattle.ms_ken.specs.Known.{Known}
 use Rattle.ms_link.specs.declared.fault.LinkError.{LinkError}
 use Rattle.ms_link.specs.declared.fault.LinkError.TheVariants as errors
-use Rattle.ms_link.specs.Links.{LinkView, Stays, IsStale, Lists, Has, Gets}
+use Rattle.ms_link.specs.Links.{LinkView, Stays, Lists, Has, Gets}
 use Rattle.ms_record.specs.declared.item.Item.{Item}
 
 both_second : (a b : Bool) → (a && b) ≡ true → b ≡ true
