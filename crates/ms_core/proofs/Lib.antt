@@ -24,6 +24,7 @@ pub mod Fronts
 pub mod Offering
 pub mod Telling
 pub mod Viewing
+pub mod ViewChain
 pub mod Following
 pub mod Supporting
 pub mod EmptyVersion

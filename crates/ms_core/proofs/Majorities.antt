@@ -27,7 +27,7 @@ cond_le false b h = omega arith
 count_cons : {X : Type 0} (p : X → Bool) (x : X) (xs : List X) → count_by p (x ∷ xs) ≡ cond (p x) 1 0 + count_by p xs
 count_cons p x xs = sum_by-cons (λ s. cond (p s) 1 0) x xs
 
-count_le : (p q : ℕ → Bool) (xs : List ℕ) → ((s : ℕ) → p s ≡ true → q s ≡ true) → count_by p xs ≤ count_by q xs
+pub count_le : (p q : ℕ → Bool) (xs : List ℕ) → ((s : ℕ) → p s ≡ true → q s ≡ true) → count_by p xs ≤ count_by q xs
 count_le p q [] h = omega arith
 count_le p q (x ∷ xs) h = omega (arith, count_cons p x xs, count_cons q x xs, cond_le (p x) (q x) (h x), count_le p q xs h)
 

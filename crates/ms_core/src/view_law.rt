@@ -36,6 +36,9 @@ pub fn told_views()
     ensures linked { (view : View) (setting : Setting) → IsClosed view → list_at view configuration ≡ Told setting ∷ []
         → (i : ℕ) (e : Entry) → IsChosen (votes_told view) setting.services (i + 1) e
         → (members : List Entry) × (length members ≡ i) × IsLinked (votes_told view) (all_services setting.services) (origin_of setting) (members ++ e ∷ []) }
+    // There is a chain.
+    ensures chain { (view : View) (setting : Setting) → IsClosed view → list_at view configuration ≡ Told setting ∷ []
+        → (chain : List Entry) × IsChain (votes_told view) (all_services setting.services) (origin_of setting) chain }
     // A chosen entry stands in the chain at its position.
     ensures stands { (view : View) (setting : Setting) (chain : List Entry) → IsClosed view → list_at view configuration ≡ Told setting ∷ []
         → IsChain (votes_told view) (all_services setting.services) (origin_of setting) chain

@@ -1,5 +1,6 @@
 use Rattle.ms_core.proofs.Laws.{Laws}
 use Rattle.ms_core.proofs.Telling.{tells}
+use Rattle.ms_core.proofs.ViewChain.{view_chain}
 use Rattle.ms_core.proofs.Viewing.{view_agrees, view_valid, view_linked, view_stands, view_live, views_agree}
 use Rattle.ms_core.proofs.view_law.told_views.Goals as goal
 
@@ -22,6 +23,9 @@ returns-clause-valid c = λ view setting closed told k e chosen. view_valid sett
 
 pub returns-clause-linked : goal.returns-clause-linked
 returns-clause-linked c = λ view setting closed told i e chosen. view_linked (laws c) setting view (tells view setting closed told) i e chosen
+
+pub returns-clause-chain : goal.returns-clause-chain
+returns-clause-chain c = λ view setting closed told. view_chain (laws c) setting view (tells view setting closed told)
 
 pub returns-clause-stands : goal.returns-clause-stands
 returns-clause-stands c = λ view setting chain closed told is i e chosen. view_stands (laws c) setting view chain (tells view setting closed told) is i e chosen
