@@ -4,6 +4,7 @@
 pub mod bytes;
 pub mod gate;
 pub mod items;
+pub mod limits;
 pub mod memory;
 pub mod names;
 pub mod outside;
