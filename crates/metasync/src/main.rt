@@ -1,24 +1,11 @@
 //! The program: `metasync WORDS` on the current folder.
 #![tactic(auto)]
 
-mod audit;
-mod drill;
-mod hash;
-mod house;
-mod input;
-mod top;
-
-use crate::house::FolderHouse;
-use crate::top::run;
 use ms_base::{FreeGate, StdSink};
+use ms_top::{FolderHouse, run};
 use std::alloc::AllocError;
 use std::process::ExitCode;
 use std::{env, io};
-
-#[cfg(test)]
-mod drill_tests;
-#[cfg(test)]
-mod tests;
 
 /// The words after the program's name. Words that are not UTF-8 are no command, and neither is no word.
 fn words(rt: &HostRuntime) -> Result<Vec<String>, AllocError> {

@@ -1,5 +1,0 @@
-use Rattle.metasync.proofs.Running.{Carried}
-use Rattle.metasync.proofs.drill.run_events.Given as goal
-
-abbrev pub invariant-loop-event : goal.invariant-loop-event
-invariant-loop-event l = Carried l.drill.setting l.event-items l.event-index l.world

@@ -1,5 +1,0 @@
-use Rattle.metasync.proofs.Statuses.{run_has_causes}
-use Rattle.metasync.proofs.top.run.Goals as goal
-
-pub returns-clause-causes : goal.returns-clause-causes
-returns-clause-causes g c = run_has_causes _ _ _ _ _ c.answer-report.result c.tell.result c.answer-report.ensures c.tell.ensures

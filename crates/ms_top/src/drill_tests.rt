@@ -1,0 +1,183 @@
+//! Drills over texts in memory. The expected lines were computed by `bench/drill_reference.py`.
+
+use crate::drills::drill;
+use crate::tests::{answers, inputs, repeated};
+use ms_base::VecSink;
+use std::alloc::Global;
+use std::test::*;
+
+/// One service and one client agree on a push of the empty folder.
+const ONE_SERVICE: &str = "metasync-drill 1 1 1 1\nstart 0\nplace 0 1 4400000000\n\
+place 0 1 56000000000000000100093f931703155bc6bf1c13039ffdb49856410b2b359c93cab8e52059073ecef9\n\
+bid 0 1 1 5dcd779c992ce8abd8d1d159273fbb738b716051a07d5b005f2e672f18a67455\ndeliver 0\nread 0 0 3\noffer 0\n\
+deliver 1\ndeliver 1\nread 0 0 5\nlearn 0\n";
+
+const ONE_SERVICE_TOLD: &str =
+    "0 44ebb44cc06eea957b7551f688dcf920a89239cae3a7867c469add64036f2579\n\
+1 4ab950372736ee82fef4e652b16a152aaa1ca46b2a9e98a028ef065265974a3b push 0 1 5dcd779c992ce8abd8d1d159273fbb738b716051a07d5b005f2e672f18a67455\n\
+end 1\nclient 0 knows 1\n";
+
+/// Then all is placed in generation 2, and the client offers to turn to it.
+const TURN: &str = "place 0 2 4400000000\n\
+place 0 2 56000000000000000100093f931703155bc6bf1c13039ffdb49856410b2b359c93cab8e52059073ecef9\nturn 0 2 2 2 1 0\n\
+deliver 2\nread 0 0 8\noffer 0\n";
+
+const TURN_TOLD: &str = "0 44ebb44cc06eea957b7551f688dcf920a89239cae3a7867c469add64036f2579\n\
+1 4ab950372736ee82fef4e652b16a152aaa1ca46b2a9e98a028ef065265974a3b push 0 1 5dcd779c992ce8abd8d1d159273fbb738b716051a07d5b005f2e672f18a67455\n\
+2 9d094ad3437c65830b1aa50a48efc720a03e01a39dbcbc12e53b17e699068698 plan 0 2 5dcd779c992ce8abd8d1d159273fbb738b716051a07d5b005f2e672f18a67455 2\n\
+end 2\nclient 0 knows 1\n";
+
+/// Client 1 bids over client 0, whose Accepts come too late; both learn what client 1 offered.
+const OVERTAKEN: &str = "metasync-drill 1 3 2 1\nstart 0\nstart 1\nplace 0 1 4400000000\n\
+place 0 1 56000000000000000100093f931703155bc6bf1c13039ffdb49856410b2b359c93cab8e52059073ecef9\n\
+bid 0 1 1 5dcd779c992ce8abd8d1d159273fbb738b716051a07d5b005f2e672f18a67455\n\
+bid 1 1 2 5dcd779c992ce8abd8d1d159273fbb738b716051a07d5b005f2e672f18a67455\ndeliver 0\ndeliver 1\nread 0 0 3\n\
+read 0 1 1\noffer 0\ndeliver 3\ndeliver 4\ndeliver 6\ndeliver 7\nread 1 0 4\nread 1 1 2\noffer 1\ndeliver 9\n\
+deliver 10\nread 1 0 6\nread 1 1 4\nlearn 1\nread 0 0 6\nread 0 1 4\nlearn 0\n";
+
+const OVERTAKEN_TOLD: &str = "0 8dafeee32b60ad97c4eb37e4657bc895ceec4ccdd5b307d563840b7581b1530a\n\
+1 67106597056353127321643e81fb2b98fd778440af08d9ac1b49e5bc16e4ae09 push 1 2 5dcd779c992ce8abd8d1d159273fbb738b716051a07d5b005f2e672f18a67455\n\
+end 1\nclient 0 knows 1\nclient 1 knows 1\n";
+
+/// Client 0 stops with one of its Accepts taken and the others never delivered; client 1 settles its push.
+const STOPPED: &str = "metasync-drill 1 3 2 1\nstart 0\nplace 0 1 4400000000\n\
+place 0 1 56000000000000000100093f931703155bc6bf1c13039ffdb49856410b2b359c93cab8e52059073ecef9\n\
+bid 0 1 1 5dcd779c992ce8abd8d1d159273fbb738b716051a07d5b005f2e672f18a67455\ndeliver 0\ndeliver 1\nread 0 0 3\n\
+read 0 1 1\noffer 0\ndeliver 3\nstop 0\nstart 1\nbid 1 2 -\ndeliver 6\ndeliver 7\nread 1 0 5\nread 1 1 2\noffer 1\n\
+deliver 9\ndeliver 10\nread 1 0 6\nread 1 1 3\nlearn 1\n";
+
+const STOPPED_TOLD: &str = "0 8dafeee32b60ad97c4eb37e4657bc895ceec4ccdd5b307d563840b7581b1530a\n\
+1 d30f5f2af2fff6f217eb9c00c8bbdf94393a1ae1164d98440f95613409cb7435 push 0 1 5dcd779c992ce8abd8d1d159273fbb738b716051a07d5b005f2e672f18a67455\n\
+end 1\nclient 0 knows 0\nclient 1 knows 1\n";
+
+/// Whether the schedule of these parts is answered so, by the call and by the words.
+fn drills(alloc: Global, parts: &[&str], lines: &str, wanted: u8) -> bool {
+    let Ok(mut inputs) = inputs(alloc, parts) else {
+        return false;
+    };
+    let mut out = VecSink::new(alloc, 1000, Vec::new(alloc));
+    let status = drill(alloc, "d", &mut inputs, &mut out);
+    out.text() == lines.as_bytes()
+        && status == wanted
+        && answers(alloc, &["drill", "d"], parts, lines, wanted)
+}
+
+#[test]
+fn offer_needs_promises(rt: HostRuntime) {
+    let begin = "metasync-drill 1 3 2 1\nstart 0\nbid 0 1 -\ndeliver 0\ndeliver 1\nread 0 0 1\n";
+    assert!(rt;
+        drills(
+            rt.alloc(),
+            &[begin, "read 0 1 1\noffer 0\n"],
+            "event 7 nothing\n",
+            16
+        )
+    );
+    assert!(rt; drills(rt.alloc(), &[begin, "offer 0\n"], "event 6 promises\n", 16));
+}
+
+#[test]
+fn drill_of_one_service(rt: HostRuntime) {
+    assert!(rt; drills(rt.alloc(), &[ONE_SERVICE], ONE_SERVICE_TOLD, 0));
+}
+
+#[test]
+fn drop_before_the_turn(rt: HostRuntime) {
+    let parts = [ONE_SERVICE, TURN, "drop 0 2\n"];
+    assert!(rt; drills(rt.alloc(), &parts, "event 18 turned\n", 16));
+}
+
+#[test]
+fn drop_after_the_turn(rt: HostRuntime) {
+    let parts = [ONE_SERVICE, TURN, "deliver 3\ndrop 0 2\n"];
+    assert!(rt; drills(rt.alloc(), &parts, TURN_TOLD, 0));
+}
+
+#[test]
+fn place_below_the_floor(rt: HostRuntime) {
+    let parts = [
+        ONE_SERVICE,
+        TURN,
+        "deliver 3\ndrop 0 2\nplace 0 1 4400000000\n",
+    ];
+    assert!(rt; drills(rt.alloc(), &parts, "event 20 generation\n", 16));
+}
+
+#[test]
+fn bidders_overtake_each_other(rt: HostRuntime) {
+    assert!(rt; drills(rt.alloc(), &[OVERTAKEN], OVERTAKEN_TOLD, 0));
+}
+
+#[test]
+fn a_stopped_client_is_settled(rt: HostRuntime) {
+    assert!(rt; drills(rt.alloc(), &[STOPPED], STOPPED_TOLD, 0));
+}
+
+#[test]
+fn conditions_by_their_words(rt: HostRuntime) {
+    for (events, lines) in [
+        ("stop 0\n", "event 1 off\n"),
+        ("start 1\n", "event 1 client\n"),
+        ("start 0\nstart 0\n", "event 2 on\n"),
+        ("start 0\nbid 0 0 -\n", "event 2 round\n"),
+        ("start 0\nbid 0 4294967295 -\n", "event 2 round\n"),
+        ("start 0\nturn 0 1 1 1 1 1\n", "event 2 plan\n"),
+        ("start 0\nturn 0 1 1 1 1 0\n", "event 2 placed\n"),
+        ("deliver 0\n", "event 1 request\n"),
+        ("start 0\nread 0 1 0\n", "event 2 service\n"),
+        ("start 0\nread 0 0 1\n", "event 2 prefix\n"),
+        ("start 0\noffer 0\n", "event 2 bid\n"),
+        ("start 0\nlearn 0\n", "event 2 chosen\n"),
+        ("place 1 1 00\n", "event 1 service\n"),
+        ("place 0 0 00\n", "event 1 generation\n"),
+        ("drop 0 2\n", "event 1 turned\n"),
+        ("drop 1 0\n", "event 1 service\n"),
+    ] {
+        assert!(rt; drills(rt.alloc(), &["metasync-drill 1 1 1 1\n", events], lines, 16));
+    }
+}
+
+#[test]
+fn bad_drill_lines(rt: HostRuntime) {
+    for (schedule, lines) in [
+        ("", "bad input 1\n"),
+        ("metasync-drill 1 3 2 4\n", "bad input 1\n"),
+        ("metasync-drill 1 17 2 1\n", "bad input 1\n"),
+        ("metasync-drill 1 1 1 1 \n", "bad input 1\n"),
+        ("metasync-drill 1 1 1 1\nstart\n", "bad input 2\n"),
+        (
+            "metasync-drill 1 1 1 1\nstart 0\nplace 0 1 -\n",
+            "bad input 3\n",
+        ),
+        (
+            "metasync-drill 1 1 1 1\nturn 0 1 1 1 1 0,0\n",
+            "bad input 2\n",
+        ),
+        (
+            "metasync-drill 1 1 1 1\nturn 0 1 1 1 2 0\n",
+            "bad input 2\n",
+        ),
+        (
+            "metasync-drill 1 1 1 1\ndeliver 18446744073709551616\n",
+            "bad input 2\n",
+        ),
+        ("metasync-drill 1 1 1 1\nbid 0 01 -\n", "bad input 2\n"),
+        ("metasync-drill 1 1 1 1\n\n", "bad input 2\n"),
+    ] {
+        assert!(rt; drills(rt.alloc(), &[schedule], lines, 2));
+    }
+}
+
+#[test]
+fn more_than_ten_thousand_events(rt: HostRuntime) {
+    let alloc = rt.alloc();
+    let events = repeated(alloc, "x\n", 10_001).expect(&rt, "memory");
+    assert!(rt;
+        drills(
+            alloc,
+            &["metasync-drill 1 1 1 1\n", &events],
+            "limit events 10001\n",
+            11
+        )
+    );
+}
