@@ -2,6 +2,7 @@
 #![tactic(auto)]
 
 pub mod bytes;
+pub mod fields;
 pub mod gate;
 pub mod items;
 pub mod limits;
