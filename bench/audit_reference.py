@@ -1,8 +1,8 @@
 #!/usr/bin/env python3
 """An independent `audit`: reads a dump and prints what `metasync audit` is to print, and ends with its status.
 
-It shares no code with the program. It follows docs/FORMATS.md and docs/PROTOCOL.md literally and is slow: use it on
-small dumps, to find the expected lines of an example, or through `bench/compare_audit.py` on many random ones.
+It shares no code with the program. It follows docs/FORMATS.md and docs/PROTOCOL.md literally: use it to find the expected
+lines of an example, or through `bench/compare_audit.py` on many random dumps.
 """
 import hashlib
 import struct
@@ -74,7 +74,7 @@ def parse_plan(text):
     rows = [struct.unpack(">IQ", text[24 + 12 * i : 36 + 12 * i]) for i in range(count)]
     good = (
         1 <= generation <= LAST
-        and format_ == 1
+        and format_ in (1, 2)
         and unit >= 1
         and 1 <= count <= 16
         and 1 <= replicas <= count
@@ -116,11 +116,10 @@ def parse_record(text):
     return None if entry is None else (position, (round_, client), entry)
 
 
-def taken_accepts(votes, position):
+def taken_accepts(votes):
+    """The Accepts that are taken of the records of one service at one position, each with its ballot."""
     taken, top = [], None
-    for at, ballot, entry in votes:
-        if at != position:
-            continue
+    for ballot, entry in votes:
         if top is not None and ballot < top:
             continue
         top = ballot
@@ -129,13 +128,29 @@ def taken_accepts(votes, position):
     return taken
 
 
-def chosen_at(lists, position):
-    """The chosen entries in order of ballot, then bytes, each with its ballot."""
+def chosen_at(lists, position, voters):
+    """The chosen entries in order of ballot, then bytes, each with its ballot: those that most of the voters have taken."""
     holders = {}
-    for service, votes in enumerate(lists):
-        for vote in taken_accepts(votes, position):
+    for service in voters:
+        for vote in taken_accepts(lists[service].get(position, [])):
             holders.setdefault(vote, set()).add(service)
-    return sorted(vote for vote, services in holders.items() if 2 * len(services) > len(lists))
+    return sorted(vote for vote, services in holders.items() if 2 * len(services) > len(voters))
+
+
+def by_position(texts):
+    """The records of a vote list by their positions, in order. Entries that are no record are skipped."""
+    found = {}
+    for text in texts:
+        record = parse_record(text)
+        if record is not None:
+            found.setdefault(record[0], []).append(record[1:])
+    return found
+
+
+def goes_on(plan, generation, format_, services):
+    """Whether a plan may follow one of that generation and format."""
+    known = all(service < services for service, _ in plan["rows"])
+    return known and plan["generation"] >= generation and plan["format"] >= format_
 
 
 def name(entry):
@@ -147,26 +162,23 @@ def audit(text):
     if isinstance(read, int):
         return "bad input %d\n" % read, 2
     services, genesis, texts = read
-    lists = [[r for r in map(parse_record, entries) if r is not None] for entries in texts]
-    positions = sorted({position for votes in lists for position, _, _ in votes})
-    for position in positions:
-        entries = [entry for _, entry in chosen_at(lists, position)]
+    lists = [by_position(entries) for entries in texts]
+    out, before, generation, format_, voters, position = ["0 " + genesis.hex()], genesis, 1, 1, range(services), 1
+    while True:
+        entries = [entry for _, entry in chosen_at(lists, position, voters)]
         others = [entry for entry in entries if entry != entries[0]]
         if others:
             return "split %d %s %s\n" % (position, name(entries[0]), name(others[0])), 10
-    out, before, generation, position = ["0 " + genesis.hex()], genesis, 1, 1
-    while True:
-        entries = chosen_at(lists, position)
         if not entries:
             break
-        entry = parse_entry(entries[0][1])
+        entry = parse_entry(entries[0])
         plan = entry["plan"]
         if entry["before"] != before:
             break
         if plan is not None:
-            if plan["generation"] < generation or any(service >= services for service, _ in plan["rows"]):
+            if not goes_on(plan, generation, format_, services):
                 break
-            generation = plan["generation"]
+            generation, format_, voters = plan["generation"], plan["format"], [service for service, _ in plan["rows"]]
         kind = "push" if plan is None else "plan"
         line = "%d %s %s %d %d %s" % (position, name(entry["bytes"]), kind, entry["client"], entry["number"], entry["version"].hex())
         out.append(line if plan is None else line + " %d" % plan["generation"])

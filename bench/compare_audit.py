@@ -24,7 +24,7 @@ def entry(rng, before):
         return b"U" + body
     services = sorted(rng.sample(range(5), rng.randint(1, 3)))
     rows = b"".join(struct.pack(">IQ", s, 1000 * rng.randint(1, 16)) for s in services)
-    plan = struct.pack(">IIIQI", rng.randint(1, 3), 1, rng.randint(1, len(services)), 1000, len(services)) + rows
+    plan = struct.pack(">IIIQI", rng.randint(1, 3), rng.choice([1, 1, 1, 2, 2, 3]), rng.randint(1, len(services)), 1000, len(services)) + rows
     return b"L" + body + plan
 
 

@@ -45,12 +45,12 @@ def plan(generation, replicas, services):
         raise Bad
     if not 1 <= replicas <= len(rows):
         raise Bad
-    return {"generation": generation, "replicas": replicas, "services": services}
+    return {"generation": generation, "format": 1, "replicas": replicas, "services": services}
 
 
 def plan_text(p):
     rows = b"".join(struct.pack(">IQ", s, 1) for s in p["services"])
-    return struct.pack(">IIIQI", p["generation"], 1, p["replicas"], 1, len(p["services"])) + rows
+    return struct.pack(">IIIQI", p["generation"], p["format"], p["replicas"], 1, len(p["services"])) + rows
 
 
 def entry_text(e):
@@ -80,6 +80,10 @@ def parse_event(line):
         if len(rest) != 4:
             raise Bad
         return ("bid", number(rest[0], U32), number(rest[1], U32), (number(rest[2], U32), name(rest[3])))
+    if word == b"migrate":
+        if len(rest) != 4:
+            raise Bad
+        return ("migrate", number(rest[0], U32), number(rest[1], U32), number(rest[2], U32), name(rest[3]))
     if word == b"turn":
         if len(rest) != 6:
             raise Bad
@@ -127,30 +131,50 @@ def part(label):
     return 1 <= len(label) <= 200 and label not in (b".", b"..") and b"/" not in label and b"\0" not in label
 
 
-def children(text):
-    """The kind of an object and what it names, or None."""
-    if text[:1] == b"B" and len(text) <= 65537:
-        return "blob", []
-    if text[:1] == b"F" and len(text) >= 13:
-        size, count = struct.unpack(">QI", text[1:13])
-        if size <= 67108864 and count == -(-size // 65536) and len(text) == 13 + 32 * count:
-            return "file", [(text[13 + 32 * i:45 + 32 * i], "blob") for i in range(count)]
-    if text[:1] == b"D" and len(text) >= 5:
-        count, at, before, rows = struct.unpack(">I", text[1:5])[0], 5, None, []
-        if count > 100000:
+# By the first byte of an object: its kind and format.
+KINDS = {
+    b"B": ("blob", 1), b"F": ("file", 1), b"D": ("dir", 1), b"V": ("version", 1),
+    b"C": ("blob", 2), b"G": ("file", 2), b"E": ("dir", 2), b"W": ("version", 2),
+}
+BLOB = {1: 65536, 2: 1048576}
+FILE = {1: 67108864, 2: 1073741824}
+
+
+def rows_of(text, format_):
+    """What a directory names, or None."""
+    count, at, before, rows = struct.unpack(">I", text[1:5])[0], 5, None, []
+    if count > 100000:
+        return None
+    size = {1: 0, 2: 8}[format_]
+    for _ in range(count):
+        kind, length = text[at:at + 1], text[at + 1:at + 2]
+        if kind not in (b"f", b"d") or not length:
             return None
-        for _ in range(count):
-            if at + 2 > len(text) or text[at:at + 1] not in b"fd":
-                return None
-            size = text[at + 1]
-            label = text[at + 2:at + 2 + size]
-            named = text[at + 2 + size:at + 34 + size]
-            if len(label) < size or len(named) < 32 or not part(label) or (before is not None and label <= before):
-                return None
-            rows.append((named, "file" if text[at:at + 1] == b"f" else "dir"))
-            before, at = label, at + 34 + size
-        return ("dir", rows) if at == len(text) else None
-    if text[:1] == b"V" and len(text) >= 10:
+        label_end = at + 2 + length[0]
+        label, end = text[at + 2:label_end], label_end + size + 32
+        if end > len(text) or not part(label) or (before is not None and label <= before):
+            return None
+        rows.append((text[end - 32:end], "file" if kind == b"f" else "dir"))
+        before, at = label, end
+    return rows if at == len(text) else None
+
+
+def children(text, format_):
+    """The kind of an object of that format and what it names, or None."""
+    kind, of = KINDS.get(text[:1], (None, None))
+    if of != format_:
+        return None
+    if kind == "blob":
+        fits = len(text) - 1 <= BLOB[format_] and (format_ == 1 or len(text) > 1)
+        return ("blob", []) if fits else None
+    if kind == "file" and len(text) >= 13:
+        size, count = struct.unpack(">QI", text[1:13])
+        if size <= FILE[format_] and count == -(-size // BLOB[format_]) and len(text) == 13 + 32 * count:
+            return "file", [(text[13 + 32 * i:45 + 32 * i], "blob") for i in range(count)]
+    if kind == "dir" and len(text) >= 5:
+        rows = rows_of(text, format_)
+        return None if rows is None else ("dir", rows)
+    if kind == "version" and len(text) >= 10:
         client, _, parents = struct.unpack(">IIB", text[1:10])
         if client <= 15 and parents <= 2 and len(text) == 42 + 32 * parents:
             return "version", [(text[-32:], "dir")]
@@ -160,7 +184,7 @@ def children(text):
 class World:
     def __init__(self, head, n, c, r):
         empty = sha(b"V" + struct.pack(">IIB", 0, 0, 0) + sha(b"D\0\0\0\0"))
-        first = {"generation": 1, "replicas": r, "services": list(range(n))}
+        first = {"generation": 1, "format": 1, "replicas": r, "services": list(range(n))}
         self.n, self.c = n, c
         self.genesis = {"before": sha(head), "client": 0, "number": 0, "version": empty, "plan": first}
         self.logs = [[] for _ in range(n)]
@@ -183,7 +207,7 @@ class World:
             puts = [(s, e[3]) for s in range(self.n) for e in self.logs[s] if e[0] == "put" and e[1] == p["generation"] and e[2] == wanted[0]]
             if not puts or len({s for s, _ in puts} & set(p["services"])) < p["replicas"]:
                 return False
-            read = children(puts[0][1])
+            read = children(puts[0][1], p["format"])
             if read is None or read[0] != wanted[1]:
                 return False
             todo += read[1]
@@ -200,27 +224,32 @@ class World:
                     out.append(e[1])
         return out
 
-    def chosen(self, logs, position):
-        votes = {}
-        for s, log in enumerate(logs):
-            for record in self.counted(log, position):
+    def chosen(self, logs, chain):
+        """The entry that most voters have taken under one ballot behind that chain, or None."""
+        votes, voters = {}, self.voters(chain)
+        for s in voters:
+            for record in self.counted(logs[s], len(chain) + 1):
                 if record["entry"] is not None:
                     votes.setdefault((record["ballot"], entry_text(record["entry"])), (record["entry"], set()))[1].add(s)
         for entry, services in votes.values():
-            if 2 * len(services) > self.n:
+            if 2 * len(services) > len(voters):
                 return entry
         return None
+
+    def voters(self, chain):
+        """Who votes behind that chain: the services of the plan in force at its end."""
+        return self.plan_after(chain)["services"]
 
     def links(self, chain, entry):
         if entry["before"] != entry_name(self.last(chain)):
             return False
-        p = entry["plan"]
-        return p is None or (max(p["services"]) < self.n and p["generation"] >= self.plan_after(chain)["generation"])
+        p, now = entry["plan"], self.plan_after(chain)
+        return p is None or (max(p["services"]) < self.n and p["generation"] >= now["generation"] and p["format"] >= now["format"])
 
     def chain(self):
         chain = []
         while True:
-            entry = self.chosen(self.logs, len(chain) + 1)
+            entry = self.chosen(self.logs, chain)
             if entry is None or not self.links(chain, entry):
                 return chain
             chain.append(entry)
@@ -232,14 +261,14 @@ class World:
             raise Refused("off")
         return self.clients[client]
 
-    def send(self, record):
-        self.requests += [(s, record) for s in range(self.n)]
+    def send(self, client, record):
+        self.requests += [(s, record) for s in self.voters(client["chain"])]
 
     def bid(self, who, client, round_, want):
         position = len(client["chain"]) + 1
         client["kept"] = round_
         client["bid"] = {"position": position, "round": round_, "want": want, "offered": False}
-        self.send({"position": position, "ballot": (round_, who), "entry": None})
+        self.send(client, {"position": position, "ballot": (round_, who), "entry": None})
 
     def may_bid(self, client, round_):
         if len(client["chain"]) + 1 > LAST:
@@ -274,12 +303,26 @@ class World:
     def do_turn(self, who, round_, count, p):
         client = self.up(who)
         self.may_bid(client, round_)
-        if max(p["services"]) >= self.n or p["generation"] < self.plan_after(client["chain"])["generation"]:
+        now = self.plan_after(client["chain"])
+        p = {**p, "format": now["format"]}
+        if max(p["services"]) >= self.n or p["generation"] < now["generation"]:
             raise Refused("plan")
-        last = self.last(client["chain"])
-        if not self.placed(p, last["version"]):
+        self.bid_plan(who, round_, count, p, self.last(client["chain"])["version"])
+
+    def do_migrate(self, who, round_, count, version):
+        client = self.up(who)
+        self.may_bid(client, round_)
+        now = self.plan_after(client["chain"])
+        if now["format"] != 1:
+            raise Refused("plan")
+        self.bid_plan(who, round_, count, {**now, "format": 2}, version)
+
+    def bid_plan(self, who, round_, count, p, version):
+        client = self.clients[who]
+        if not self.placed(p, version):
             raise Refused("placed")
-        self.bid(who, client, round_, {"before": entry_name(last), "client": who, "number": count, "version": last["version"], "plan": p})
+        before = entry_name(self.last(client["chain"]))
+        self.bid(who, client, round_, {"before": before, "client": who, "number": count, "version": version, "plan": p})
 
     def do_deliver(self, request):
         if request >= len(self.requests):
@@ -304,9 +347,10 @@ class World:
         if bid is None or bid["offered"]:
             raise Refused("bid")
         ballot, bests, promised = (bid["round"], who), [], 0
-        for log in self.known_logs(client):
+        logs, voters = self.known_logs(client), self.voters(client["chain"])
+        for s in voters:
             best = None
-            for record in self.counted(log, bid["position"]):
+            for record in self.counted(logs[s], bid["position"]):
                 if record["entry"] is not None:
                     best = (record["ballot"], record["entry"])
                 elif record["ballot"] == ballot:
@@ -314,17 +358,17 @@ class World:
                     if best is not None:
                         bests.append(best)
                     break
-        if 2 * promised <= self.n:
+        if 2 * promised <= len(voters):
             raise Refused("promises")
         entry = max(bests, key=lambda b: b[0])[1] if bests else bid["want"]
         if entry is None:
             raise Refused("nothing")
         bid["offered"] = True
-        self.send({"position": bid["position"], "ballot": ballot, "entry": entry})
+        self.send(client, {"position": bid["position"], "ballot": ballot, "entry": entry})
 
     def do_learn(self, who):
         client = self.up(who)
-        entry = self.chosen(self.known_logs(client), len(client["chain"]) + 1)
+        entry = self.chosen(self.known_logs(client), client["chain"])
         if entry is None or not self.links(client["chain"], entry):
             raise Refused("chosen")
         client["chain"].append(entry)
