@@ -65,5 +65,5 @@ setting_fits line head h = record {
   genesis = record { before = length-sha256 line; client = omega arith; number = omega arith; version = length-sha256 _; plan = first_keeps head h };
   plan = first_plan head;
   plan_is = refl;
-  first = record { generation = refl; rows = services_are 0 head.services };
+  first = record { generation = refl; format = refl; rows = services_are 0 head.services };
 }

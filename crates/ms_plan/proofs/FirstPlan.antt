@@ -77,7 +77,7 @@ setting_fits text draft h numbers some =
       genesis = record { before = length-sha256 text; client = omega arith; number = omega arith; version = length-sha256 _; plan = first_keeps draft h numbers some };
       plan = first_plan draft;
       plan_is = refl;
-      first = record { generation = refl; rows = services_are 0 draft.services };
+      first = record { generation = refl; format = refl; rows = services_are 0 draft.services };
     }
 
 pub rows-push : (n : ℕ) (services : List ServiceLine) (service : ServiceLine) → rows_from n (services ++ service ∷ []) ≡ rows_from n services ++ row_of (n + length services) service ∷ []

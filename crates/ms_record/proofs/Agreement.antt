@@ -7,7 +7,7 @@ use Rattle.ms_record.specs.declared.ballot.Vote.{Vote}
 use Rattle.ms_record.specs.declared.record.Record.{Record}
 use Rattle.ms_record.specs.declared.record.Record.TheVariants.{Prepare, Accept}
 use Rattle.ms_record.specs.Ballots.{IsBelow, IsAtMost}
-use Rattle.ms_record.specs.Offers.{Shows, IsOffered, IsSound}
+use Rattle.ms_record.specs.Offers.{Shows, IsOffered, IsSoundAt}
 use Rattle.ms_record.specs.Votes.{IsTaken, IsPromised, IsBest, ChosenBy}
 use Rattle.ms_record.proofs.BallotOrder.{ballots_apart, at_most_cases, ballot_induction, not_above, at_most_trans, below_at_most}
 use Rattle.ms_record.proofs.Majorities.{majorities_meet}
@@ -43,7 +43,7 @@ best_taken records k b best v h e =
     (g.at, g.taken)
 
 -- below, c is the ballot under which e is chosen
-same_as_taken : (votes offers : ℕ → List Record) (voters : List ℕ) (k : ℕ) (sound : IsSound votes offers voters k) (c : Ballot) (e : Entry)
+same_as_taken : (votes offers : ℕ → List Record) (voters : List ℕ) (k : ℕ) (sound : IsSoundAt votes offers voters k) (c : Ballot) (e : Entry)
     (below : (a : Ballot) (f : Entry) → IsOffered offers k a f → IsBelow c a → f ≡ e) → IsOffered offers k c e
     → (v : Vote) → IsOffered offers k v.ballot v.entry → IsAtMost c v.ballot → v.entry ≡ e
 same_as_taken votes offers voters k sound c e below offered v o m =
@@ -52,7 +52,7 @@ same_as_taken votes offers voters k sound c e below offered v o m =
       | inr same ↦ sound.one_offer v.ballot v.entry e o (subst (λ (b : Ballot). IsOffered offers k b e) same offered)
     ]
 
-agreed_step : (votes offers : ℕ → List Record) (voters : List ℕ) (k : ℕ) (sound : IsSound votes offers voters k) (e : Entry) (chosen : ChosenBy votes voters k e) (b : Ballot)
+agreed_step : (votes offers : ℕ → List Record) (voters : List ℕ) (k : ℕ) (sound : IsSoundAt votes offers voters k) (e : Entry) (chosen : ChosenBy votes voters k e) (b : Ballot)
     (below : (a : Ballot) → IsBelow a b → (f : Entry) → IsOffered offers k a f → IsBelow chosen.ballot a → f ≡ e)
     (f : Entry) → IsOffered offers k b f → IsBelow chosen.ballot b → f ≡ e
 agreed_step votes offers voters k sound e chosen b below f offered l =
@@ -75,13 +75,13 @@ agreed_step votes offers voters k sound e chosen b below f offered l =
     ]
 
 -- each offer under a greater ballot than the one under which e is chosen carries e
-pub later_offers_agree : (votes offers : ℕ → List Record) (voters : List ℕ) (k : ℕ) → IsSound votes offers voters k → (e : Entry) (chosen : ChosenBy votes voters k e)
+pub later_offers_agree : (votes offers : ℕ → List Record) (voters : List ℕ) (k : ℕ) → IsSoundAt votes offers voters k → (e : Entry) (chosen : ChosenBy votes voters k e)
     (b : Ballot) (f : Entry) → IsOffered offers k b f → IsBelow chosen.ballot b → f ≡ e
 later_offers_agree votes offers voters k sound e chosen b =
     ballot_induction (λ b. (f : Entry) → IsOffered offers k b f → IsBelow chosen.ballot b → f ≡ e) (agreed_step votes offers voters k sound e chosen) b
 
 -- of two chosen entries, the one under the ballot that is not smaller was offered
-agree_up : (votes offers : ℕ → List Record) (voters : List ℕ) (k : ℕ) → IsSound votes offers voters k → (e f : Entry) (c : ChosenBy votes voters k e) (d : ChosenBy votes voters k f)
+agree_up : (votes offers : ℕ → List Record) (voters : List ℕ) (k : ℕ) → IsSoundAt votes offers voters k → (e f : Entry) (c : ChosenBy votes voters k e) (d : ChosenBy votes voters k f)
     → IsAtMost c.ballot d.ballot → f ≡ e
 agree_up votes offers voters k sound e f c d m =
     let both = majorities_meet c.part d.part voters c.majority d.majority in
@@ -94,7 +94,7 @@ agree_up votes offers voters k sound e f c d m =
     ]
 
 -- two entries chosen at one position are one
-pub chosen_agree : (votes offers : ℕ → List Record) (voters : List ℕ) (k : ℕ) → IsSound votes offers voters k → (e f : Entry) → ChosenBy votes voters k e → ChosenBy votes voters k f → e ≡ f
+pub chosen_agree : (votes offers : ℕ → List Record) (voters : List ℕ) (k : ℕ) → IsSoundAt votes offers voters k → (e f : Entry) → ChosenBy votes voters k e → ChosenBy votes voters k f → e ≡ f
 chosen_agree votes offers voters k sound e f c d =
     elim (ballots_apart d.ballot c.ballot) [
       | inl l ↦ agree_up votes offers voters k sound f e d c (below_at_most d.ballot c.ballot l)

@@ -6,6 +6,7 @@ mod Feeding
 mod FieldLaws
 mod Filling
 mod Majorities
+mod Masters
 mod PlanLaws
 mod PlanRules
 mod RecordLaws

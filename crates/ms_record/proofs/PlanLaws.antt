@@ -146,4 +146,4 @@ plan_again plan rest h =
     let few : length plan.rows ≤ 16 = h.few_rows in
     let fits : AllFit plan.rows = λ i row e. let r = h.rows i row e in record { service = omega (arith, r.service); capacity = r.capacity } in
     ap plan_at regrouped
-    ∙ rw (number_again w32 (2 ^ 32) wide32 plan.generation format (omega (arith, h.last_generation)), number_again w32 (2 ^ 32) wide32 plan.format replicas (omega (arith, h.format)), number_again w32 (2 ^ 32) wide32 plan.replicas unit (omega (arith, h.few_replicas, few)), number_again w64 (2 ^ 64) wide64 plan.unit count h.unit, within_again 1 16 (length plan.rows) rows h.some_rows few (omega arith), rows_again plan.rows rest fits, plan_if_keeps plan h) refl
+    ∙ rw (number_again w32 (2 ^ 32) wide32 plan.generation format (omega (arith, h.last_generation)), number_again w32 (2 ^ 32) wide32 plan.format replicas (omega (arith, h.last_format)), number_again w32 (2 ^ 32) wide32 plan.replicas unit (omega (arith, h.few_replicas, few)), number_again w64 (2 ^ 64) wide64 plan.unit count h.unit, within_again 1 16 (length plan.rows) rows h.some_rows few (omega arith), rows_again plan.rows rest fits, plan_if_keeps plan h) refl

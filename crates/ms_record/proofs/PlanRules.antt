@@ -85,13 +85,15 @@ plan_passes p unit capacities h =
     let d = split _ (nat_le (length p.rows) 16) c.0 in
     let e = split _ (nat_le 1 (length p.rows)) d.0 in
     let f = split _ (nat_le 1 p.unit) e.0 in
-    let g = split _ (p.format == 1) f.0 in
-    let k = split (nat_le 1 p.generation) (nat_le p.generation 4294967294) g.0 in
+    let g = split _ (nat_le p.format 2) f.0 in
+    let j = split _ (nat_le 1 p.format) g.0 in
+    let k = split (nat_le 1 p.generation) (nat_le p.generation 4294967294) j.0 in
     let rows = rows_pass p.unit 0 p.rows capacities a.1 in
     record {
       some_generation = leb-true _ _ k.0;
       last_generation = leb-true _ _ k.1;
-      format = eqb-true _ _ g.1;
+      some_format = leb-true _ _ j.1;
+      last_format = leb-true _ _ g.1;
       some_unit = leb-true _ _ f.1;
       unit = unit;
       some_rows = leb-true _ _ e.1;
@@ -113,9 +115,11 @@ plan_keeps p h =
     (joined _ (nat_le (length p.rows) 16)
     (joined _ (nat_le 1 (length p.rows))
     (joined _ (nat_le 1 p.unit)
-    (joined _ (p.format == 1)
+    (joined _ (nat_le p.format 2)
+    (joined _ (nat_le 1 p.format)
     (joined (nat_le 1 p.generation) (nat_le p.generation 4294967294) (le-leb _ _ h.some_generation) (le-leb _ _ h.last_generation))
-    (eq-eqb _ _ h.format))
+    (le-leb _ _ h.some_format))
+    (le-leb _ _ h.last_format))
     (le-leb _ _ h.some_unit))
     (le-leb _ _ h.some_rows))
     (le-leb _ _ h.few_rows))

@@ -1,5 +1,5 @@
 -- What lists of records show stays as it is when they grow, and so do the votes of logs.
-use Rattle.std.proofs.Common.{◌≡◌, ℕ, ◌<◌, ◌≤◌, ◌==◌, Bool, true, false, cond, suc, zero, List, [], ◌∷◌, ◌++◌, Option, Some, None, refl, sym, ap, ◌∙◌, slice_get, length, arith}
+use Rattle.std.proofs.Common.{◌≡◌, ℕ, ◌+◌, ◌<◌, ◌≤◌, ◌==◌, Bool, true, false, cond, suc, zero, List, [], ◌∷◌, ◌++◌, Option, Some, None, refl, sym, ap, ◌∙◌, slice_get, length, take, arith}
 use Rattle.std.proofs.lemmas.Option.{slice_get_within}
 use Rattle.ms_record.specs.declared.ballot.Ballot.{Ballot}
 use Rattle.ms_record.specs.declared.entry.Entry.{Entry}
@@ -9,7 +9,8 @@ use Rattle.ms_record.specs.declared.log.LogEvent.{LogEvent}
 use Rattle.ms_record.specs.declared.log.LogEvent.TheVariants.{Rec, Put, Drop}
 use Rattle.ms_record.specs.Logs.{texts_in, vote_texts, votes_in}
 use Rattle.ms_record.specs.Reading.{record_at, votes_of, with_record}
-use Rattle.ms_record.specs.Offers.{IsFirstPromised, Shows, JustifiedBy, GrowsTo}
+use Rattle.ms_record.specs.Chains.{Origin, IsLinked, IsChosen, voters_behind}
+use Rattle.ms_record.specs.Offers.{IsFirstPromised, Shows, JustifiedBy, IsJustified, GrowsTo}
 use Rattle.ms_record.specs.Votes.{NoneAbove, IsTaken, IsPromised, IsGreatestTaken, IsBest, ChosenBy}
 
 -- the two lists agree at each place below n
@@ -86,6 +87,31 @@ justified_grows old new voters k b e g h = record {
   majority = h.majority;
   shown = λ s m. shows_grows (old s) (new s) (g s).0 k b (h.bests s) (g s).1 (h.shown s m);
   entry_is = h.entry_is;
+}
+
+-- a linked list stays linked
+pub linked_grows : (old new : ℕ → List Record) (origin : Origin) (c : List Entry) → GrowsTo old new → IsLinked old origin c → IsLinked new origin c
+linked_grows old new origin c g h = record {
+  chosen = λ i e at. chosen_grows old new (voters_behind origin (take i c)) (i + 1) e g (h.chosen i e at);
+  links = h.links;
+}
+
+-- a master stays chosen
+pub is_chosen_grows : (old new : ℕ → List Record) (origin : Origin) (k : ℕ) (e : Entry) → GrowsTo old new → IsChosen old origin k e → IsChosen new origin k e
+is_chosen_grows old new origin k e g h = record {
+  members = h.members;
+  linked = linked_grows old new origin h.members g h.linked;
+  at = h.at;
+  chosen = chosen_grows old new (voters_behind origin h.members) k e g h.chosen;
+}
+
+-- an offer stays justified
+pub is_justified_grows : (old new : ℕ → List Record) (origin : Origin) (k : ℕ) (b : Ballot) (e : Entry) → GrowsTo old new → IsJustified old origin k b e → IsJustified new origin k b e
+is_justified_grows old new origin k b e g h = record {
+  members = h.members;
+  linked = linked_grows old new origin h.members g h.linked;
+  at = h.at;
+  justified = justified_grows old new (voters_behind origin h.members) k b e g h.justified;
 }
 
 -- each log goes on from the old one

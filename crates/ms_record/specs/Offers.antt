@@ -1,10 +1,11 @@
 -- Offers: what the lists show to a bidder, and which entry may be offered under a ballot.
-use Rattle.std.specs.Prelude.{◌≡◌, ℕ, ◌<◌, ◌≤◌, Bool, true, List, ◌++◌, Option, Some, None, ◌⊎◌, slice_get}
+use Rattle.std.specs.Prelude.{◌≡◌, ℕ, ◌<◌, ◌≤◌, ◌+◌, Bool, true, List, ◌++◌, length, Option, Some, None, ◌⊎◌, slice_get}
 use Rattle.ms_record.specs.declared.ballot.Ballot.{Ballot}
 use Rattle.ms_record.specs.declared.ballot.Vote.{Vote}
 use Rattle.ms_record.specs.declared.entry.Entry.{Entry}
 use Rattle.ms_record.specs.declared.record.Record.{Record}
 use Rattle.ms_record.specs.declared.record.Record.TheVariants.{Accept}
+use Rattle.ms_record.specs.Chains.{Origin, IsLinked, voters_behind}
 use Rattle.ms_record.specs.Ballots.{IsBelow, IsAtMost}
 use Rattle.ms_record.specs.Votes.{IsPromised, IsTaken, IsBest, IsMajority}
 
@@ -48,11 +49,24 @@ abbrev pub IsOffered : (ℕ → List Record) → ℕ → Ballot → Entry → Ty
 IsOffered offers position ballot entry =
     (place : ℕ) × (slice_get (offers ballot.client.0) place ≡ Some (Accept position ballot entry))
 
--- at this position each ballot has one offer at most, what was taken was offered, and each offer is justified
-pub record IsSound (votes offers : ℕ → List Record) (voters : List ℕ) (position : ℕ) : Type 0 where
+-- at this position, of these voters: each ballot has one offer at most, what was taken was offered, and each offer is justified
+pub record IsSoundAt (votes offers : ℕ → List Record) (voters : List ℕ) (position : ℕ) : Type 0 where
   pub one_offer : (b : Ballot) (e f : Entry) → IsOffered offers position b e → IsOffered offers position b f → e ≡ f
   pub taken_offered : (s place : ℕ) (b : Ballot) (e : Entry) → IsTaken (votes s) place position b e → IsOffered offers position b e
   pub justified : (b : Ballot) (e : Entry) → IsOffered offers position b e → JustifiedBy votes voters position b e
+
+-- the offer follows the rule at a majority of the voters behind a linked list of the members before it
+pub record IsJustified (votes : ℕ → List Record) (origin : Origin) (position : ℕ) (ballot : Ballot) (entry : Entry) : Type 0 where
+  pub members : List Entry
+  pub linked : IsLinked votes origin members
+  pub at : position ≡ length members + 1
+  pub justified : JustifiedBy votes (voters_behind origin members) position ballot entry
+
+-- each ballot has one offer at most at a position, what was taken was offered, and each offer is justified
+pub record IsSound (votes offers : ℕ → List Record) (origin : Origin) : Type 0 where
+  pub one_offer : (k : ℕ) (b : Ballot) (e f : Entry) → IsOffered offers k b e → IsOffered offers k b f → e ≡ f
+  pub taken_offered : (s place k : ℕ) (b : Ballot) (e : Entry) → IsTaken (votes s) place k b e → IsOffered offers k b e
+  pub justified : (k : ℕ) (b : Ballot) (e : Entry) → IsOffered offers k b e → IsJustified votes origin k b e
 
 -- each list goes on from the old one
 abbrev pub GrowsTo : (ℕ → List Record) → (ℕ → List Record) → Type 0

@@ -1,5 +1,5 @@
 -- The plan rules as a test. The laws of `Plan::new` tie it to the rules.
-use Rattle.std.specs.Prelude.{◌≡◌, ℕ, ◌+◌, ◌^◌, ◌<◌, slice_get, ◌/◌, ◌==◌, ◌&&◌, nat_le, nat_lt, Bool, true, List, [], ◌∷◌, length, Option, Some, None, if◌then◌else◌}
+use Rattle.std.specs.Prelude.{◌≡◌, ℕ, ◌+◌, ◌^◌, ◌<◌, slice_get, ◌/◌, ◌&&◌, nat_le, nat_lt, Bool, true, List, [], ◌∷◌, length, Option, Some, None, if◌then◌else◌}
 use Rattle.ms_record.specs.declared.plan.PlanRow.{PlanRow}
 use Rattle.ms_record.specs.Plans.{PlanView}
 
@@ -17,7 +17,7 @@ are_rows unit low (row ∷ rows) = nat_le low row.service.0 && is_row unit row &
 
 unfoldable pub is_plan : PlanView → Bool
 is_plan p =
-    nat_le 1 p.generation && nat_le p.generation 4294967294 && (p.format == 1) && nat_le 1 p.unit
+    nat_le 1 p.generation && nat_le p.generation 4294967294 && nat_le 1 p.format && nat_le p.format 2 && nat_le 1 p.unit
     && nat_le 1 (length p.rows) && nat_le (length p.rows) 16 && nat_le 1 p.replicas && nat_le p.replicas (length p.rows)
     && are_rows p.unit 0 p.rows
 

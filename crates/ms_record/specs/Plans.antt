@@ -1,5 +1,5 @@
 -- Plans, the rules that they keep, and their one spelling.
-use Rattle.std.specs.Prelude.{◌≡◌, ℕ, ◌+◌, ◌/◌, ◌^◌, ◌<◌, ◌≤◌, List, ◌++◌, length, Some, slice_get}
+use Rattle.std.specs.Prelude.{◌≡◌, ℕ, ◌+◌, ◌/◌, ◌^◌, ◌<◌, ◌≤◌, List, [], ◌++◌, length, Some, slice_get}
 use Rattle.std.specs.Int.{w32, w64, to_be_bytes}
 use Rattle.std.specs.List.{flat_map}
 use Rattle.ms_record.specs.declared.plan.PlanRow.{PlanRow}
@@ -15,6 +15,10 @@ pub record PlanView : Type 0 where
 abbrev pub plan_of : ℕ → ℕ → ℕ → ℕ → List PlanRow → PlanView
 plan_of generation format replicas unit rows = record { generation = generation; format = format; replicas = replicas; unit = unit; rows = rows }
 
+-- stands where nothing is planned
+abbrev pub no_plan : PlanView
+no_plan = plan_of 0 0 0 0 []
+
 -- a service of the workspace, with 1 to 16 copies
 pub record IsRow (unit : ℕ) (row : PlanRow) : Type 0 where
   pub service : row.service.0 < 16
@@ -26,7 +30,8 @@ pub record IsRow (unit : ℕ) (row : PlanRow) : Type 0 where
 pub record IsPlan (plan : PlanView) : Type 0 where
   pub some_generation : 1 ≤ plan.generation
   pub last_generation : plan.generation ≤ 4294967294
-  pub format : plan.format ≡ 1
+  pub some_format : 1 ≤ plan.format
+  pub last_format : plan.format ≤ 2
   pub some_unit : 1 ≤ plan.unit
   pub unit : plan.unit < 2 ^ 64
   pub some_rows : 1 ≤ length plan.rows

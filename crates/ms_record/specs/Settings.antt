@@ -1,17 +1,16 @@
 -- What all clients agree on from the start.
-use Rattle.std.specs.Prelude.{◌≡◌, ℕ, ◌≤◌, List, [], ◌∷◌, map, Option, Some, None}
-use Rattle.std.specs.List.{range_with_len}
-use Rattle.ms_record.specs.declared.entry.Entry.{Entry}
-use Rattle.ms_record.specs.declared.plan.PlanRow.{PlanRow}
+use Rattle.std.specs.Prelude.{◌≡◌, ℕ, ◌≤◌, Some}
 use Rattle.ms_record.specs.declared.setting.Setting.{Setting}
-use Rattle.ms_record.specs.Chains.{Origin}
+use Rattle.ms_record.specs.Chains.{Origin, plan_after, voters_of}
 use Rattle.ms_record.specs.Entries.{IsEntry, name_of}
-use Rattle.ms_record.specs.Plans.{PlanView}
+use Rattle.ms_record.specs.Plans.{PlanView, no_plan}
+use Rattle.ms_record.specs.Votes.{services_below}
 
--- the first plan: of generation 1, over all services in order
+-- the first plan: of generation 1 and format 1, over all services in order
 pub record IsFirstPlan (services : ℕ) (plan : PlanView) : Type 0 where
   pub generation : plan.generation ≡ 1
-  pub rows : map (λ (row : PlanRow). row.service.0) plan.rows ≡ range_with_len 0 services
+  pub format : plan.format ≡ 1
+  pub rows : voters_of plan ≡ services_below services
 
 -- the numbers are in their ranges, and the genesis is a plan entry over all services
 pub record IsSetting (setting : Setting) : Type 0 where
@@ -24,16 +23,10 @@ pub record IsSetting (setting : Setting) : Type 0 where
   pub plan_is : setting.genesis.plan ≡ Some plan
   pub first : IsFirstPlan setting.services plan
 
+-- the plan of its genesis
+abbrev pub genesis_plan : Setting → PlanView
+genesis_plan setting = plan_after no_plan setting.genesis.plan
+
 -- where its chain begins
 abbrev pub origin_of : Setting → Origin
-origin_of setting = record { name = name_of setting.genesis; generation = 1; services = setting.services }
-
--- the plan of an entry, else the one in force before it
-abbrev pub plan_after : Option PlanView → Option PlanView → Option PlanView
-plan_after before None = before
-plan_after before (Some plan) = Some plan
-
--- the plan in force behind the members: the last plan
-abbrev pub plan_in : Option PlanView → List Entry → Option PlanView
-plan_in before [] = before
-plan_in before (e ∷ es) = plan_in (plan_after before e.plan) es
+origin_of setting = record { name = name_of setting.genesis; plan = genesis_plan setting; services = setting.services }

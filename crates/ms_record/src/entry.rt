@@ -11,7 +11,7 @@ ghost use Rattle.ms_record.specs.Plans.{plan_text, row_text};
 ghost use Rattle.ms_record.specs.Reading.{entry_at};
 ghost use Rattle.sha2.specs.Hashers.{Holds256};
 
-use crate::plan::{Plan, PlanRow};
+use crate::plan::{LAST_FORMAT, Plan, PlanRow};
 use crate::reading::read_entry;
 use ms_base::{ClientId, Items, Name};
 use sha2::{Digest, Sha256};
@@ -107,25 +107,26 @@ fn feed_u64(hasher: &mut Sha256, number: u64)
     hasher.update(&number.to_be_bytes());
 }
 
-/// Whether the entry names the member before, and its plan, where it has one, goes on from the generation in force
-/// with services below `services` alone.
-pub fn links_on(before: &Name, generation: u32, services: u32, entry: &Entry) -> bool
-    ensures { IsTrue result ↔ LinksOn before.now.0 generation services entry.now }
+/// Whether the entry names the member before, and its plan, where it has one, goes on from the generation and the
+/// format in force with services below `services` alone.
+pub fn links_on(before: &Name, generation: u32, format: u32, services: u32, entry: &Entry) -> bool
+    ensures { IsTrue result ↔ LinksOn before.now.0 generation format services entry.now }
 {
     if entry.before != *before {
         return false;
     }
     match &entry.plan {
         None => true,
-        Some(plan) => goes_on(plan, generation, services),
+        Some(plan) => goes_on(plan, generation, format, services),
     }
 }
 
-/// Whether a plan goes on from this generation, with services below `services` alone.
-fn goes_on(plan: &Plan, generation: u32, services: u32) -> bool
-    ensures { IsTrue result ↔ GoesOn generation services plan.now }
+/// Whether a plan goes on from this generation and format, with services below `services` alone.
+fn goes_on(plan: &Plan, generation: u32, format: u32, services: u32) -> bool
+    ensures { IsTrue result ↔ GoesOn generation format services plan.now }
 {
-    plan.format() == 1
+    plan.format() <= LAST_FORMAT
+        && format <= plan.format()
         && generation <= plan.generation()
         && plan.rows().iter().all(|row| row.service.0 < services)
 }

@@ -48,6 +48,9 @@ pub(crate) const MOST_ROWS: usize = 16;
 /// The last generation.
 const LAST_GENERATION: u32 = 4_294_967_294;
 
+/// The last format.
+pub(crate) const LAST_FORMAT: u32 = 2;
+
 /// Stands at the places of a plan that have no row.
 pub(crate) const NO_ROW: PlanRow = PlanRow {
     service: ServiceId(0),
@@ -89,7 +92,7 @@ impl Plan {
         self.generation
     }
 
-    /// How objects are written.
+    /// How objects are written, 1 or 2.
     pub fn format(&self) -> u32
         ensures { result ≡ self.now.format }
     {
@@ -127,7 +130,8 @@ fn keeps_rules(generation: u32, format: u32, replicas: u32, unit: u64, rows: &[P
 {
     generation >= 1
         && generation <= LAST_GENERATION
-        && format == 1
+        && format >= 1
+        && format <= LAST_FORMAT
         && unit >= 1
         && !rows.is_empty()
         && rows.len() <= MOST_ROWS

@@ -87,8 +87,8 @@ const NO_PLANS: [&str; 12] = [
     "ffffffff000000010000000200000000000003e800000003",
     // format 0
     "00000001000000000000000200000000000003e800000003",
-    // format 2
-    "00000001000000020000000200000000000003e800000003",
+    // format 3
+    "00000001000000030000000200000000000003e800000003",
     // replicas 0
     "00000001000000010000000000000000000003e800000003",
     // replicas above the rows
@@ -380,7 +380,7 @@ fn plan_rules(rt: HostRuntime) {
         (0, 1, 1, 1000),
         (4_294_967_295, 1, 1, 1000),
         (1, 0, 1, 1000),
-        (1, 2, 1, 1000),
+        (1, 3, 1, 1000),
         (1, 1, 0, 1000),
         (1, 1, 3, 1000),
         (1, 1, 1, 0),
@@ -400,29 +400,45 @@ fn plan_rules(rt: HostRuntime) {
     assert!(rt; Plan::new(1, 1, 1, 1000, &[row(0, 17_000)]).is_none());
 }
 
+/// The generation and the format in force, how many services there are, and whether the plan of generation 2 and
+/// format 1 over three services goes on.
+const PLANS_OF_FORMAT_1: [(u32, u32, u32, bool); 6] = [
+    (1, 1, 3, true),
+    (2, 1, 3, true),
+    (2, 1, 16, true),
+    (3, 1, 3, false),
+    (1, 1, 2, false),
+    (1, 2, 3, false),
+];
+
+/// A push with this plan.
+fn plan_entry(plan: Option<Plan>) -> Entry {
+    Entry { plan, ..push() }
+}
+
 #[test]
-fn links_on_table(rt: HostRuntime) -> Result<(), Fail> {
-    assert!(rt; links_on(&ZEROS, 9, 1, &push()));
-    assert!(rt; !links_on(&ONES, 9, 1, &push()));
-    let entry = Entry {
-        plan: Some(conf_plan(2).ok_or("a plan")?),
-        ..push()
-    };
-    for (before, generation, services, links) in [
-        (ZEROS, 1, 3, true),
-        (ZEROS, 2, 3, true),
-        (ZEROS, 2, 16, true),
-        (ZEROS, 3, 3, false),
-        (ZEROS, 1, 2, false),
-        (ONES, 1, 3, false),
-    ] {
+fn links_on_table(rt: HostRuntime) {
+    let entry = plan_entry(conf_plan(2));
+    for (generation, format, services, links) in PLANS_OF_FORMAT_1 {
         assert_eq!(rt;
-            links_on(&before, generation, services, &entry),
-            links,
-            "{generation} {services}"
+            links_on(&ZEROS, generation, format, services, &entry),
+            links
         );
     }
-    Ok(())
+}
+
+#[test]
+fn a_plan_of_format_2_links_on_to_both_formats(rt: HostRuntime) {
+    let plan = Plan::new(2, 2, 1, 1000, &[row(0, 1000)]);
+    let entry = plan_entry(plan);
+    assert!(rt; links_on(&ZEROS, 2, 1, 1, &entry));
+    assert!(rt; links_on(&ZEROS, 2, 2, 1, &entry));
+}
+
+#[test]
+fn a_push_names_the_member_before(rt: HostRuntime) {
+    assert!(rt; links_on(&ZEROS, 9, 2, 1, &push()));
+    assert!(rt; !links_on(&ONES, 9, 2, 1, &push()));
 }
 
 #[test]
