@@ -12,7 +12,7 @@ use Rattle.ms_core.proofs.Places.{in_here, some_same}
 use Rattle.ms_core.proofs.Telling.{tells, vote_offered, offered}
 use Rattle.ms_core.specs.FirstBids.{with_offer}
 use Rattle.ms_core.specs.Placing.{PlacedBy, HasObject, wanted_in}
-use Rattle.ms_core.specs.declared.reaching.Want.{Want}
+use Rattle.ms_core.specs.declared.want.Want.{Want}
 use Rattle.ms_core.specs.Views.{View, configuration, log_in, offers_told, votes_told, WholeBy, SupportsOffer, SupportsEvent, TellsSetting, IsClosed}
 use Rattle.ms_ken.specs.Lists.{list_at, with_item}
 use Rattle.ms_object.specs.declared.object.Object.{Object}

@@ -4,7 +4,7 @@ use Rattle.std.proofs.lemmas.Bool.{cases_lt}
 use Rattle.std.proofs.lemmas.List.{length_push}
 use Rattle.std.proofs.lemmas.Option.{slice_get_within}
 use Rattle.ms_core.proofs.Laws.{Laws}
-use Rattle.ms_core.proofs.Majorities.{below_voter, voter_below, count_le, count_some}
+use Rattle.ms_core.proofs.Voters.{below_voter, voter_below, count_le, count_some}
 use Rattle.ms_core.proofs.Places.{same_or_not, some_same}
 use Rattle.ms_core.proofs.Telling.{vote_offered, one_offer}
 use Rattle.ms_core.proofs.Viewing.{view_linked}

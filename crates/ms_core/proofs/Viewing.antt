@@ -1,7 +1,7 @@
 -- In a view that tells a setting, what is chosen agrees, is valid, and stays placed.
 use Rattle.std.proofs.Common.{◌≡◌, ℕ, ◌+◌, List, [], ◌∷◌, ◌++◌, Some, ◌⊎◌, inl, inr, ◌∙◌, subst, slice_get, length, arith}
 use Rattle.std.proofs.lemmas.Bool.{cases_lt}
-use Rattle.ms_core.proofs.Events.{counted}
+use Rattle.ms_core.proofs.Voters.{count_some}
 use Rattle.ms_core.proofs.Laws.{Laws}
 use Rattle.ms_core.proofs.Living.{OneList, AreBacked, live_stands, live_plan}
 use Rattle.ms_core.proofs.Telling.{tells, log_supported, vote_offered, offered, told_sound}
@@ -30,7 +30,7 @@ view_agrees l setting view h k e f c d = l.one (votes_told view) (offers_told vi
 
 pub view_valid : (setting : Setting) (view : View) → TellsSetting view setting → (k : ℕ) (e : Entry) → IsChosen (votes_told view) setting.services k e → IsWholeMaster setting view k e
 view_valid setting view h k e c =
-    let m = counted c.chosen.part (services_below setting.services) (omega (arith, c.chosen.majority.more_than_half)) in
+    let m = count_some c.chosen.part (services_below setting.services) (omega (arith, c.chosen.majority.more_than_half)) in
     let t = c.chosen.taken m.0 m.1 in
     let o = offered view setting h k c.chosen.ballot e (vote_offered view setting h m.0 t.0 k c.chosen.ballot e t.1.stands) in
     (o.1.supports.declared.valid, o.1.supports.whole)

@@ -1,15 +1,5 @@
 pub mod Placing
-pub mod Puts
-pub mod Reaching
-pub mod Worlds
-pub mod Steps
-pub mod Refusals
-pub mod Held
-pub mod Rulings
 pub mod Valid
-pub mod Passes
-pub mod States
-pub mod WorldInside
 pub mod Floors
 pub mod Growth
 pub mod Views

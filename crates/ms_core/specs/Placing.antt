@@ -1,10 +1,10 @@
 -- When a version is placed: all that it reaches is put on enough services of a plan.
-use Rattle.std.specs.Prelude.{◌≡◌, ℕ, ◌≤◌, ◌==◌, ◌&&◌, Bool, true, bytes_eq, List, [], ◌∷◌, map, All, Option, Some, None, Contains, count_by, slice_index_or, if◌then◌else◌}
+use Rattle.std.specs.Prelude.{◌≡◌, ℕ, ◌≤◌, Bool, true, List, [], ◌∷◌, map, All, Some, count_by}
 use Rattle.sha2.specs.Sha256.{sha256}
 use Rattle.ms_base.specs.declared.names.Name.{Name}
-use Rattle.ms_core.specs.declared.reaching.Want.{Want}
-use Rattle.ms_core.specs.declared.reaching.Wanted.{Wanted}
-use Rattle.ms_core.specs.declared.reaching.Wanted.TheVariants.{Blob, File, Directory, Version}
+use Rattle.ms_core.specs.declared.want.Want.{Want}
+use Rattle.ms_core.specs.declared.want.Wanted.{Wanted}
+use Rattle.ms_core.specs.declared.want.Wanted.TheVariants.{Blob, File, Directory, Version}
 use Rattle.ms_object.specs.declared.object.Kind.{Kind}
 use Rattle.ms_object.specs.declared.object.Kind.TheVariants as kinds
 use Rattle.ms_object.specs.declared.object.Object.{Object}
@@ -13,7 +13,6 @@ use Rattle.ms_object.specs.declared.object.Row.{Row}
 use Rattle.ms_object.specs.Objects.{Spells}
 use Rattle.ms_object.specs.Trees.{Texts}
 use Rattle.ms_record.specs.declared.log.LogEvent.{LogEvent}
-use Rattle.ms_record.specs.declared.log.LogEvent.TheVariants.{Put}
 use Rattle.ms_record.specs.declared.plan.PlanRow.{PlanRow}
 use Rattle.ms_record.specs.Logs.{HasPut, Stands}
 use Rattle.ms_record.specs.Plans.{PlanView}
@@ -71,31 +70,3 @@ IsPlaced logs plan version = PlacedBy (λ s name. HasPut (logs s) plan.generatio
 -- placed by puts that stand
 abbrev pub StaysPlaced : (ℕ → List LogEvent) → PlanView → Name → Type 0
 StaysPlaced logs plan version = PlacedBy (λ s name. Stands (logs s) plan.generation name) plan version
-
--- the text that an event puts under that name in that generation
-abbrev pub text_put_by : ℕ → Name → LogEvent → Option (List ℕ)
-text_put_by generation name (Put g x text) = if (g == generation) && bytes_eq x.0 name.0 then Some text else None
-text_put_by generation name _ = None
-
-abbrev pub or_else : Option (List ℕ) → Option (List ℕ) → Option (List ℕ)
-or_else None later = later
-or_else (Some text) later = Some text
-
--- the first text that a log puts under that name in that generation
-abbrev pub text_put : ℕ → Name → List LogEvent → Option (List ℕ)
-text_put generation name [] = None
-text_put generation name (event ∷ log) = or_else (text_put_by generation name event) (text_put generation name log)
-
--- the same of all logs, in the order of the services
-abbrev pub text_of_puts : List (List LogEvent) → ℕ → Name → Option (List ℕ)
-text_of_puts [] generation name = None
-text_of_puts (log ∷ logs) generation name = or_else (text_put generation name log) (text_of_puts logs generation name)
-
--- placed by the first text that was put under each name, where these are the logs of the services
-pub record IsPlacedInLogs (logs : List (List LogEvent)) (plan : PlanView) (version : Name) : Type 0 where
-  pub placed : PlacedBy (λ s name. HasPut (slice_index_or logs s []) plan.generation name) plan version
-  pub texts : (name : Name) (text : List ℕ) → placed.store name.0 ≡ Some text → text_of_puts logs plan.generation name ≡ Some text
-
--- each text was put under its SHA-256
-abbrev pub ArePutsNamed : List LogEvent → Type 0
-ArePutsNamed log = (generation : ℕ) (name : Name) (text : List ℕ) → Contains log (Put generation name text) → name.0 ≡ sha256 text

@@ -1,34 +1,9 @@
-//! The protocol as a pure machine: a world of services and clients, its events, and what holds in every run.
+//! The views that services and clients share: what each item rests on, and what holds of every closed view.
 #![tactic(auto)]
 
-mod acceptor;
-mod behind;
-mod bids;
-mod chain;
-mod chosen;
-pub mod client;
 pub mod closing;
-pub mod event;
-mod front;
-mod happen;
-pub mod law;
-mod offers;
-mod placing;
-mod puts;
-mod reached;
-pub mod reaching;
-pub mod rule;
-mod service;
-pub mod shown;
-mod state;
 pub mod view_law;
-pub mod world;
+pub mod want;
 
-pub use client::{Bidding, Request};
 pub use closing::{Common, FoldClosed, Know};
-pub use event::{Event, Push};
-pub use rule::Ruling;
-pub use world::World;
-
-#[cfg(test)]
-mod world_tests;
+pub use want::{Want, Wanted};

@@ -1,7 +1,7 @@
 -- The line that is named is the first wrong one.
 use Rattle.std.proofs.Common.{◌≡◌, ℕ, zero, suc, ◌+◌, Bool, true, false, cond, List, [], ◌∷◌, ◌++◌, ◌⊎◌, inl, inr, refl, sym, ap, ◌∙◌, subst, length, slice_get, nat_lt, IsSome, Option, Some, None, Result, Ok, Err, arith}
 use Rattle.std.specs.Option.{option_map}
-use Rattle.ms_core.specs.declared.event.Event.{Event}
+use Rattle.ms_world.specs.declared.event.Event.{Event}
 use Rattle.ms_base.specs.declared.names.Quantity.TheVariants as quantities
 use Rattle.ms_drill.specs.declared.drill.Drill.{Drill}
 use Rattle.ms_drill.specs.declared.head.Head.{Head}

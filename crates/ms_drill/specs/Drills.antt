@@ -5,7 +5,7 @@ use Rattle.std.specs.Option.{option_map}
 use Rattle.sha2.specs.Sha256.{sha256}
 use Rattle.ms_base.specs.declared.names.Name.{Name}
 use Rattle.ms_base.specs.declared.names.Quantity.TheVariants as quantities
-use Rattle.ms_core.specs.declared.event.Event.{Event}
+use Rattle.ms_world.specs.declared.event.Event.{Event}
 use Rattle.ms_drill.specs.declared.head.Head.{Head}
 use Rattle.ms_drill.specs.declared.drill.Drill.{Drill}
 use Rattle.ms_drill.specs.Lines.{event_at, head_at, client_of, row_of}

@@ -5,9 +5,9 @@ use Rattle.std.specs.List.{slice_split}
 use Rattle.ms_base.specs.Options.{◌>>=◌}
 use Rattle.ms_base.specs.declared.names.ClientId.{ClientId}
 use Rattle.ms_base.specs.declared.names.ServiceId.{ServiceId}
-use Rattle.ms_core.specs.declared.event.Event.{Event}
-use Rattle.ms_core.specs.declared.event.Event.TheVariants as events
-use Rattle.ms_core.specs.declared.event.Push.{Push}
+use Rattle.ms_world.specs.declared.event.Event.{Event}
+use Rattle.ms_world.specs.declared.event.Event.TheVariants as events
+use Rattle.ms_world.specs.declared.event.Push.{Push}
 use Rattle.ms_drill.specs.declared.head.Head.{Head}
 use Rattle.ms_record.specs.declared.plan.PlanRow.{PlanRow}
 use Rattle.ms_record.specs.Plans.{PlanView, plan_of}

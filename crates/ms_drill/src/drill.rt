@@ -11,7 +11,7 @@ ghost use Rattle.ms_text.specs.Lines.{lines_of};
 use crate::event::read_event;
 use crate::head::{Head, read_head};
 use ms_base::{ClientId, Items, Name, Quantity, ServiceId};
-use ms_core::Event;
+use ms_world::Event;
 use ms_object::{empty_version, name_of};
 use ms_record::{Entry, Place, Plan, PlanRow, Refusal, Setting};
 use ms_text::next_line;

@@ -6,7 +6,7 @@ ghost use Rattle.std.specs.Option.{option_map};
 ghost use Rattle.ms_drill.specs.Lines.{u32_at, u64_at, u32_then, start_at, stop_at, offer_at, learn_at, deliver_at, push_at, want_at, bid_at, rows_on, rows_at, plan_at, turn_at, read_at, place_at, drop_at, client_event, other_event, event_at};
 
 use ms_base::{Bytes, ClientId, Name, NoMemory, ServiceId};
-use ms_core::{Event, Push};
+use ms_world::{Event, Push};
 use ms_record::{Plan, PlanRow};
 use ms_text::{hex_bytes, name, number, split_at_space};
 use std::alloc::{AllocError, Global};

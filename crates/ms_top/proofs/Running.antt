@@ -3,11 +3,11 @@ use Rattle.std.proofs.Common.{◌≡◌, ℕ, ◌+◌, ◌<◌, ◌≤◌, List,
 use Rattle.std.specs.Option.{option_map}
 use Rattle.std.proofs.lemmas.List.{take_more, drop_more, length-take-le, take-append-drop}
 use Rattle.std.proofs.lemmas.Option.{slice_get-map, slice_get_within, slice_get_cases, get_or_from_slice_get}
-use Rattle.ms_core.specs.declared.event.Event.{Event}
-use Rattle.ms_core.specs.Held.{HeldView, StepsTo}
-use Rattle.ms_core.specs.Refusals.{IsRefused}
-use Rattle.ms_core.specs.Steps.{IsRun, Step, Steps}
-use Rattle.ms_core.specs.Worlds.{ClientView, WorldView, start_world}
+use Rattle.ms_world.specs.declared.event.Event.{Event}
+use Rattle.ms_world.specs.Held.{HeldView, StepsTo}
+use Rattle.ms_world.specs.Refusals.{IsRefused}
+use Rattle.ms_world.specs.Steps.{IsRun, Step, Steps}
+use Rattle.ms_world.specs.Worlds.{ClientView, WorldView, start_world}
 use Rattle.ms_drill.specs.declared.drill.Drill.{Drill}
 use Rattle.ms_record.specs.declared.refusal.Refusal.{Refusal}
 use Rattle.ms_record.specs.declared.refusal.Refusal.TheVariants as refusals

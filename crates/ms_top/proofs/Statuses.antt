@@ -4,7 +4,7 @@ use Rattle.ms_base.specs.Counts.{Rose}
 use Rattle.ms_base.specs.Outside.{SinkView}
 use Rattle.ms_base.specs.declared.names.Quantity.{Quantity}
 use Rattle.ms_base.specs.declared.names.Quantity.TheVariants as quantities
-use Rattle.ms_core.specs.declared.event.Event.{Event}
+use Rattle.ms_world.specs.declared.event.Event.{Event}
 use Rattle.ms_drill.specs.declared.drill.Drill.{Drill as Schedule}
 use Rattle.ms_drill.specs.declared.head.Head.{Head}
 use Rattle.ms_drill.specs.Drills.{drill_at, drill_of, with_head, with_events, events_at, setting_of, most_events}

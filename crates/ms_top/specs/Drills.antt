@@ -3,11 +3,11 @@
 use Rattle.std.specs.Prelude.{◌≡◌, ℕ, ◌+◌, List, ◌∷◌, ◌++◌, length, map, Result, Ok, Err}
 use Rattle.ms_base.specs.Outside.{InputsView, SinkView}
 use Rattle.ms_base.specs.declared.names.Name.{Name}
-use Rattle.ms_core.specs.declared.event.Event.{Event}
-use Rattle.ms_core.specs.Held.{HeldView}
-use Rattle.ms_core.specs.Refusals.{IsRefused}
-use Rattle.ms_core.specs.Steps.{IsRun}
-use Rattle.ms_core.specs.Worlds.{ClientView, WorldView, votes_of_world}
+use Rattle.ms_world.specs.declared.event.Event.{Event}
+use Rattle.ms_world.specs.Held.{HeldView}
+use Rattle.ms_world.specs.Refusals.{IsRefused}
+use Rattle.ms_world.specs.Steps.{IsRun}
+use Rattle.ms_world.specs.Worlds.{ClientView, WorldView, votes_of_world}
 use Rattle.ms_drill.specs.declared.drill.Drill.{Drill}
 use Rattle.ms_drill.specs.Drills.{drill_at}
 use Rattle.ms_record.specs.declared.entry.Entry.{Entry}

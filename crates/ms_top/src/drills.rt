@@ -8,7 +8,7 @@ ghost use Rattle.ms_top.specs.Drills.{DrillSays, DrillTells, LeadsTo, RunSays, R
 use crate::input::read_input;
 use crate::top::tell;
 use ms_base::{ClientId, Inputs, Items, NoMemory, Sink};
-use ms_core::World;
+use ms_world::World;
 use ms_drill::{Drill, read_drill};
 use ms_record::{Refusal, entry_name};
 use ms_words::{Known, Report};

@@ -1,6 +1,6 @@
 use Rattle.std.proofs.Common.{◌≡◌, ◌≤◌, ◌∙◌, length, arith}
 use Rattle.std.proofs.lemmas.List.{length-map, take_all}
-use Rattle.ms_core.specs.Worlds.{ClientView}
+use Rattle.ms_world.specs.Worlds.{ClientView}
 use Rattle.ms_top.specs.Drills.{known_of}
 use Rattle.ms_top.proofs.Running.{known_more}
 use Rattle.ms_top.proofs.drills.known.Goals as goal

@@ -1,6 +1,0 @@
-use Rattle.std.proofs.Common.{All}
-use Rattle.ms_core.specs.Placing.{ArePutsNamed}
-use Rattle.ms_core.proofs.placing.tests.logs_of.Given as goal
-
-abbrev pub invariant-loop-service : goal.invariant-loop-service
-invariant-loop-service l = All ArePutsNamed l.logs.items

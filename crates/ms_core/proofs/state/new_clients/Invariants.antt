@@ -1,6 +1,0 @@
-use Rattle.std.proofs.Common.{◌≡◌, replicate}
-use Rattle.ms_core.specs.Worlds.{new_client}
-use Rattle.ms_core.proofs.state.new_clients.Given as goal
-
-abbrev pub invariant-loop : goal.invariant-loop
-invariant-loop l = l.clients.items ≡ replicate l.counter new_client

@@ -1,0 +1,12 @@
+use Rattle.std.proofs.Common.{◌≡◌, ◌≤◌, false, List, count_by, slice_index_or, sym, ap, ◌∙◌, arith}
+use Rattle.ms_world.proofs.ReachLaws.{reached}
+use Rattle.ms_record.specs.declared.plan.PlanRow.{PlanRow}
+use Rattle.ms_world.proofs.placing.reach.Goals as goal
+
+pub returns-clause-reaches : goal.returns-clause-reaches
+returns-clause-reaches c =
+    let found = c.in-Some.found.now in
+    let copies_are : c.copies.result ≡ count_by (λ (row : PlanRow). slice_index_or found.services row.service.0 false) c.args.plan.now.rows =
+    c.copies.ensures ∙ ap (λ (rows : List PlanRow). count_by (λ (row : PlanRow). slice_index_or found.services row.service.0 false) rows) c.rows-rows.ensures.rows in
+    let enough : c.args.plan.now.replicas ≤ count_by (λ (row : PlanRow). slice_index_or found.services row.service.0 false) c.args.plan.now.rows = omega (arith, copies_are, c.replicas.ensures) in
+    reached c.args.puts.now.entries c.args.plan.now c.args.want c.args.met.now c.meet_text.new.met found c.meet_text.result (sym c.in-Some.ensures.value) enough c.meet_text.ensures

@@ -1,0 +1,11 @@
+pub mod PutTexts
+pub mod Puts
+pub mod Reaching
+pub mod Worlds
+pub mod Steps
+pub mod Refusals
+pub mod Held
+pub mod Rulings
+pub mod Passes
+pub mod States
+pub mod WorldInside

@@ -1,0 +1,59 @@
+//! What holds in every run.
+
+ghost use Rattle.std.specs.Prelude.{◌≡◌, ◌+◌, ◌<◌, ◌⊎◌, ◌++◌, ◌∷◌, ℕ, All, Contains, List, Some, slice_get};
+ghost use Rattle.ms_world.specs.declared.event.Event.{Event};
+ghost use Rattle.ms_core.specs.Placing.{StaysPlaced};
+ghost use Rattle.ms_world.specs.Steps.{IsEvent, IsRun};
+ghost use Rattle.ms_core.specs.Valid.{IsValid, IsLive, Names};
+ghost use Rattle.ms_core.specs.Views.{MayDeclare, SupportsEvent};
+ghost use Rattle.ms_world.specs.Worlds.{ClientView, WorldView, log_of, offers_in, votes_of_world};
+ghost use Rattle.ms_record.specs.declared.entry.Entry.{Entry};
+ghost use Rattle.ms_record.specs.declared.log.LogEvent.{LogEvent};
+ghost use Rattle.ms_record.specs.declared.record.Record.{Record};
+ghost use Rattle.ms_record.specs.declared.setting.Setting.{Setting};
+ghost use Rattle.ms_record.specs.Chains.{Agrees, Begins, IsChain, IsChosen, all_services};
+ghost use Rattle.ms_record.specs.Plans.{PlanView};
+ghost use Rattle.ms_record.specs.Settings.{IsSetting, origin_of};
+
+use ms_record::law::{ballots_agree, one_chain, places_stay};
+use ms_record::record::one_spelling;
+
+/// For every setting and every list of events that can happen, with any number of failures.
+pub fn every_run()
+    // Two entries chosen at one position are one.
+    ensures agrees { (setting : Setting) (events : List Event) (w : WorldView) → IsSetting setting → All IsEvent events → IsRun setting events w
+        → Agrees (votes_of_world w) setting.services }
+    // A chosen entry links on to the members before it, and its version is placed.
+    ensures valid { (setting : Setting) (events : List Event) (w : WorldView) → IsSetting setting → All IsEvent events → IsRun setting events w
+        → (k : ℕ) (e : Entry) → IsChosen (votes_of_world w) setting.services k e → IsValid setting (log_of w) k e }
+    // A chosen entry stands in the chain at its position.
+    ensures stands { (setting : Setting) (events : List Event) (w : WorldView) (chain : List Entry) → IsSetting setting → All IsEvent events → IsRun setting events w
+        → IsChain (votes_of_world w) (all_services setting.services) (origin_of setting) chain
+        → (i : ℕ) (e : Entry) → IsChosen (votes_of_world w) setting.services (i + 1) e → slice_get chain i ≡ Some e }
+    // A client's chain begins the chain.
+    ensures begins { (setting : Setting) (events : List Event) (w : WorldView) (chain : List Entry) → IsSetting setting → All IsEvent events → IsRun setting events w
+        → IsChain (votes_of_world w) (all_services setting.services) (origin_of setting) chain
+        → (client : ℕ) (c : ClientView) → slice_get w.clients client ≡ Some c → Begins c.chain chain }
+    // Of two clients' chains one begins the other.
+    ensures one_list { (setting : Setting) (events : List Event) (w : WorldView) → IsSetting setting → All IsEvent events → IsRun setting events w
+        → (i j : ℕ) (c d : ClientView) → slice_get w.clients i ≡ Some c → slice_get w.clients j ≡ Some d → Begins c.chain d.chain ⊎ Begins d.chain c.chain }
+    // Each member of a client's chain names the SHA-256 of the bytes of the member before it.
+    ensures names { (setting : Setting) (events : List Event) (w : WorldView) → IsSetting setting → All IsEvent events → IsRun setting events w
+        → (client : ℕ) (c : ClientView) → slice_get w.clients client ≡ Some c → Names setting c.chain }
+    // What a service's log has is supported by the logs and the declared offers.
+    ensures supported { (setting : Setting) (events : List Event) (w : WorldView) → IsSetting setting → All IsEvent events → IsRun setting events w
+        → (service : ℕ) (event : LogEvent) → Contains (log_of w service) event → (service < setting.services) × SupportsEvent setting (log_of w) (offers_in w) event }
+    // What a client declared it may declare, by the logs, behind what it declared before.
+    ensures declared { (setting : Setting) (events : List Event) (w : WorldView) → IsSetting setting → All IsEvent events → IsRun setting events w
+        → (client : ℕ) (c : ClientView) (before : List Record) (offer : Record) (after : List Record) → slice_get w.clients client ≡ Some c → before ++ offer ∷ after ≡ c.offers
+        → (client < setting.clients) × MayDeclare setting (log_of w) client before offer }
+    // A live master stays placed, whatever was dropped.
+    ensures live { (setting : Setting) (events : List Event) (w : WorldView) (chain : List Entry) → IsSetting setting → All IsEvent events → IsRun setting events w
+        → IsChain (votes_of_world w) (all_services setting.services) (origin_of setting) chain
+        → (i : ℕ) (e : Entry) (plan : PlanView) → IsLive setting chain i e plan → StaysPlaced (log_of w) plan e.version }
+{
+    ballots_agree();
+    places_stay();
+    one_chain();
+    one_spelling();
+}

@@ -1,0 +1,186 @@
+//! The state of a world, and what each event does to it. What holds in every run is added by `World`.
+
+ghost use Rattle.std.specs.Prelude.{◌≡◌, ◌≤◌, ◌<◌, ◌++◌, length, replicate, slice_set, slice_get, [], Some, IfOk, IfErr, OnOk, OnErr};
+ghost use Rattle.ms_world.specs.declared.event.Event.TheVariants as events;
+ghost use Rattle.ms_world.specs.Refusals.{Tries};
+ghost use Rattle.ms_world.specs.States.{IsDown, IsState};
+ghost use Rattle.ms_world.specs.Steps.{IsUp};
+ghost use Rattle.ms_world.specs.Worlds.{new_client, start_world, to_all};
+ghost use Rattle.ms_record.specs.declared.setting.Setting.{Setting};
+
+use crate::client::{Client, Request};
+use crate::service::Log;
+use ms_base::{ClientId, NoMemory, ServiceId};
+use ms_record::{Record, Setting, Why};
+use std::alloc::Global;
+use std::marker::Model;
+
+/// The last position, round and generation.
+pub(crate) const LAST_NUMBER: u32 = 4_294_967_294;
+
+/// A log per service, all requests ever sent, and the clients.
+#[derive(Drop)]
+pub(crate) struct State {
+    pub(crate) logs: Vec<Log>,
+    pub(crate) requests: Vec<Request>,
+    pub(crate) clients: Vec<Client>,
+}
+
+impl Model for State {
+    ghost use Rattle.ms_world.specs.Worlds.{WorldView};
+
+    ghost Value = { WorldView };
+
+    ghost view = { λ s. record { logs = s.logs.items; requests = s.requests.items; clients = s.clients.items } };
+}
+
+impl State {
+    /// All logs are empty, nothing was sent, and all clients are off.
+    pub(crate) fn start(alloc: Global, setting: &Setting) -> Result<State, NoMemory>
+        ensures { IfOk result (λ s. s ≡ start_world setting.now) }
+    {
+        let logs = empty_logs(alloc, setting.services)?;
+        let clients = new_clients(alloc, setting.clients)?;
+        Ok(State {
+            logs,
+            requests: Vec::new(alloc),
+            clients,
+        })
+    }
+
+    /// The client, if it is on; else why not.
+    pub(crate) fn up(&self, client: ClientId) -> Result<&Client, Why>
+        ensures up { IfOk result (λ c. IsUp self.now client.0 c.now) }
+        ensures down { IfErr result (IsDown self.now client.0) }
+    {
+        let Some(c) = self.clients.get(client.0 as usize) else {
+            return Err(Why::Client);
+        };
+        if !c.on {
+            return Err(Why::Off);
+        }
+        Ok(c)
+    }
+
+    /// The client goes on with what it kept, or the condition that fails.
+    pub(crate) fn start_client(
+        &mut self,
+        alloc: Global,
+        setting: &Setting,
+        client: ClientId,
+    ) -> Result<Option<Why>, NoMemory>
+        ensures ok { IfOk result (λ why. Tries setting.now self.old (events.Start client) self.new why) }
+        ensures err { OnErr result (self.new ≡ self.old) }
+    {
+        let known = zeros(alloc, setting.services)?;
+        let place = client.0 as usize;
+        if place >= self.clients.len() {
+            return Ok(Some(Why::Client));
+        }
+        if self.clients[place].on {
+            return Ok(Some(Why::On));
+        }
+        self.clients[place].start(alloc, known);
+        Ok(None)
+    }
+
+    /// The client stops, or the condition that fails.
+    pub(crate) fn stop(&mut self, client: ClientId) -> Option<Why>
+        ensures { (setting : Setting) → Tries setting self.old (events.Stop client) self.new result }
+    {
+        if let Err(why) = self.up(client) {
+            return Some(why);
+        }
+        self.clients[client.0 as usize].stop();
+        None
+    }
+
+    /// The client reads a log up to so many events, or the condition that fails.
+    pub(crate) fn read(
+        &mut self,
+        setting: &Setting,
+        client: ClientId,
+        service: ServiceId,
+        upto: u64,
+    ) -> Option<Why>
+        requires { IsState setting.now self.old }
+        ensures { Tries setting.now self.old (events.Read client service upto) self.new result }
+    {
+        let known = match self.up(client) {
+            Ok(c) => c.known_of(service.0 as usize),
+            Err(why) => return Some(why),
+        };
+        if service.0 >= setting.services {
+            return Some(Why::Service);
+        }
+        if upto < known || upto > self.logs[service.0 as usize].len() {
+            return Some(Why::Prefix);
+        }
+        self.clients[client.0 as usize].read(service.0 as usize, upto);
+        None
+    }
+
+    /// Sends a request to each service; where memory runs out, to none.
+    pub(crate) fn send(
+        &mut self,
+        alloc: Global,
+        services: u32,
+        message: &Record,
+    ) -> Result<(), NoMemory>
+        ensures ok { OnOk result (self.new ≡ record self.old { requests = self.old.requests ++ to_all services message.now }) }
+        ensures err { OnErr result (self.new ≡ self.old) }
+    {
+        let mut sent = requests_to(alloc, services, message)?;
+        self.requests.append(&mut sent)?;
+        Ok(())
+    }
+}
+
+/// So many logs of services to which nothing has happened.
+fn empty_logs(alloc: Global, count: u32) -> Result<Vec<Log>, NoMemory>
+    ensures { IfOk result (λ logs. logs.items ≡ replicate count []) }
+{
+    let mut logs = Vec::new(alloc);
+    for _ in 0..count {
+        logs.push(Log::new(alloc))?;
+    }
+    Ok(logs)
+}
+
+/// So many clients that never ran.
+fn new_clients(alloc: Global, count: u32) -> Result<Vec<Client>, NoMemory>
+    ensures { IfOk result (λ clients. clients.items ≡ replicate count new_client) }
+{
+    let mut clients = Vec::new(alloc);
+    for _ in 0..count {
+        clients.push(Client::new(alloc))?;
+    }
+    Ok(clients)
+}
+
+/// So many zeros.
+fn zeros(alloc: Global, count: u32) -> Result<Vec<u64>, NoMemory>
+    ensures { IfOk result (λ v. v.items ≡ replicate count 0) }
+{
+    let zeros = vec![in alloc; 0; count as usize]?;
+    Ok(zeros)
+}
+
+/// One request to each service, by number.
+fn requests_to(alloc: Global, services: u32, message: &Record) -> Result<Vec<Request>, NoMemory>
+    ensures { IfOk result (λ v. v.items ≡ to_all services message.now) }
+{
+    let sent = (0..services)
+        .map(|service| request_to(service, message))
+        .collect(alloc)?;
+    Ok(sent)
+}
+
+fn request_to(service: u32, message: &Record) -> Request
+    ensures { result ≡ record { service = service; message = message.now } }
+{
+    Request {
+        service,
+        message: *message,
+    }
+}
