@@ -1,5 +1,5 @@
 -- The outside in memory: what is held, and the numbers of the calls that fail, counted from 0.
-use Rattle.std.specs.Prelude.{◌≡◌, ℕ, ◌+◌, ◌-◌, ◌^◌, ◌<◌, ◌≤◌, ◌==◌, ◌&&◌, Bool, true, false, List, [], ◌∷◌, ◌++◌, length, map, min, nat_lt, take, drop, Option, Some, None, Result, Ok, Err, IfSome, if◌then◌else◌}
+use Rattle.std.specs.Prelude.{◌≡◌, ◌⊎◌, ℕ, ◌+◌, ◌-◌, ◌^◌, ◌<◌, ◌≤◌, ◌==◌, ◌&&◌, Bool, true, false, List, [], ◌∷◌, ◌++◌, length, map, min, nat_lt, take, drop, Option, Some, None, Result, Ok, Err, IfSome, if◌then◌else◌}
 use Rattle.std.specs.List.{list_any}
 use Rattle.ms_base.specs.declared.outside.Failed.{Failed}
 use Rattle.ms_base.specs.declared.outside.ReadError.{ReadError}
@@ -47,6 +47,37 @@ pub record Named : Type 0 where
   pub texts : List (List ℕ × List ℕ)
   pub ended : Bool
   pub calls : Calls
+
+-- a source, a sink and inputs in memory tell what they hold
+abbrev pub source_of : Feed → SourceView
+source_of feed = record { left = Some feed.left; ended = feed.ended; faults = feed.calls.faults }
+
+abbrev pub sink_of : Taken → SinkView
+sink_of taken = record { contents = Some taken.text; faults = taken.calls.faults }
+
+abbrev pub inputs_of : Named → InputsView
+inputs_of named = record { texts = Some named.texts; ended = named.ended; faults = named.calls.faults }
+
+-- a text that is read, where it is short enough
+abbrev pub short_text : ℕ → Option (List ℕ) → Result (List ℕ) ReadError
+short_text limit None = Err errors.Failed
+short_text limit (Some text) = if nat_lt limit (length text) then Err (errors.TooLong (limit + 1)) else Ok text
+
+-- what a call gives: it fails where it is due or no text has that name
+abbrev pub given_input : ℕ → Named → List ℕ → Result (List ℕ) ReadError
+given_input limit named name = if is_due named.calls then Err errors.Failed else short_text limit (text_named named.texts name)
+
+-- this answer, or want of memory in place of a text
+abbrev pub OrWant : Result (List ℕ) ReadError → Result (List ℕ) ReadError → Type 0
+OrWant (Ok text) result = (result ≡ Ok text) ⊎ (result ≡ Err errors.NoMemory)
+OrWant (Err error) result = result ≡ Err error
+
+-- the outside failed
+abbrev pub has_failed : Result (List ℕ) ReadError → Bool
+has_failed (Ok text) = false
+has_failed (Err errors.Failed) = true
+has_failed (Err errors.NoMemory) = false
+has_failed (Err (errors.TooLong bytes)) = false
 
 -- no call was made
 abbrev pub first_calls : List ℕ → Calls

@@ -1,5 +1,5 @@
 -- What contracts see of the objects of the outside: told content, and a count of faults.
-use Rattle.std.specs.Prelude.{◌≡◌, ℕ, Bool, true, false, ◌&&◌, ◌==◌, nat_lt, List, [], ◌∷◌, Option, Some, None, Result, Ok, Err, IfSome, is_some, bytes_eq, if◌then◌else◌}
+use Rattle.std.specs.Prelude.{◌≡◌, ℕ, Bool, true, false, ◌&&◌, ◌==◌, nat_lt, List, [], ◌∷◌, Option, Some, None, Result, Ok, Err, IfSome, IsSome, bytes_eq, if◌then◌else◌}
 use Rattle.ms_base.specs.declared.outside.Failed.{Failed}
 
 -- a source: the bytes that are left, where they are told; whether the last read showed the end
@@ -24,9 +24,9 @@ abbrev pub shows_end : ℕ → Result ℕ Failed → Bool
 shows_end room (Ok count) = (count == 0) && nat_lt 0 room
 shows_end room (Err e) = false
 
--- no call changes whether a content is told
+-- what was told stays told
 abbrev pub StaysTold : {X : Type 0} → Option X → Option X → Type 0
-StaysTold old new = is_some new ≡ is_some old
+StaysTold old new = IsSome old → IsSome new
 
 -- the first text of that name
 abbrev pub text_named : List (List ℕ × List ℕ) → List ℕ → Option (List ℕ)

@@ -1,5 +1,5 @@
 -- What reading and writing all of a text did, by cases on the answer.
-use Rattle.std.specs.Prelude.{◌≡◌, ℕ, ◌+◌, ◌<◌, ◌≤◌, true, false, List, ◌++◌, length, take, Option, Some, None, Result, Ok, Err, IfSome}
+use Rattle.std.specs.Prelude.{◌≡◌, ⊤, ℕ, ◌+◌, ◌<◌, ◌≤◌, true, false, List, ◌++◌, length, take, Option, Some, None, Result, Ok, Err, IfSome}
 use Rattle.std.specs.Io.KnownBytes.{Appends, Consumes, Keeps, IsAtEnd}
 use Rattle.ms_base.specs.declared.outside.ReadError.{ReadError}
 use Rattle.ms_base.specs.declared.outside.ReadError.TheVariants as errors
@@ -26,6 +26,13 @@ ReadsPiece room old new before after (Ok count) =
 ReadsPiece room old new before after (Err errors.NoMemory) = (after ≡ before) × (piece : List ℕ) × (length piece ≤ room) × Consumes old.left new.left piece
 ReadsPiece room old new before after (Err errors.Failed) = (after ≡ before) × Rose old.faults new.faults × Keeps old.left new.left
 ReadsPiece room old new before after (Err (errors.TooLong bytes)) = ⊥
+
+-- the count is as before after each answer but a failure
+abbrev pub StaysUnlessFailed : {X : Type 0} → ℕ → ℕ → Result X ReadError → Type 0
+StaysUnlessFailed before now (Err errors.Failed) = ⊤
+StaysUnlessFailed before now (Err errors.NoMemory) = now ≡ before
+StaysUnlessFailed before now (Err (errors.TooLong bytes)) = now ≡ before
+StaysUnlessFailed before now (Ok x) = now ≡ before
 
 -- all of the text was written, or a front of it and the count rose
 abbrev pub WritesAll : List ℕ → SinkView → SinkView → Result Unit Failed → Type 0

@@ -1,10 +1,11 @@
 //! The outside in memory, which fails at the calls that it is told.
 
-ghost use Rattle.std.specs.Prelude.{◌≡◌, ◌<◌, ◌≤◌, ◌+◌, false, [], length, drop, min, Some, None, Ok, Err, IfSome, MatchOption, IsErr, IsTrue, ◌↔◌, slice_get, OnErr, IfOk};
+ghost use Rattle.std.specs.Prelude.{◌≡◌, ◌<◌, ◌≤◌, ◌+◌, ◌++◌, false, [], length, take, drop, min, Some, None, Ok, Err, IfSome, MatchOption, IsErr, IsTrue, ◌↔◌, slice_get, OnErr, OnOk, IfOk, is_err};
 ghost use Rattle.std.specs.Option.{option_map};
 ghost use Rattle.ms_base.specs.Counts.{Causes, Rose};
-ghost use Rattle.ms_base.specs.Memory.{is_due, after_call, first_calls, one_more, pairs_of};
-ghost use Rattle.ms_base.specs.Outside.{text_named};
+ghost use Rattle.ms_base.specs.Memory.{OrWant, after_call, first_calls, given_input, has_failed, inputs_of, is_due, one_more, pairs_of, sink_of, source_of};
+ghost use Rattle.ms_base.specs.Reading.{GivesInput, StaysUnlessFailed};
+ghost use Rattle.ms_base.specs.Outside.{shows_end, text_named};
 ghost use Rattle.ms_base.specs.declared.outside.ReadError.TheVariants as errors;
 
 use crate::bytes::Bytes;
@@ -107,9 +108,22 @@ impl VecSource {
 }
 
 impl Source for VecSource {
-    ghost seen = { λ s. record { left = Some s.left; ended = s.ended; faults = s.calls.faults } };
+    ghost seen = { source_of };
 
-    fn read(&mut self, into: &mut [u8]) -> Result<usize, Failed> {
+    fn read(&mut self, into: &mut [u8]) -> Result<usize, Failed>
+        ensures count { IfOk result (λ n. n ≤ length into.old) }
+        ensures bytes { IfOk result (λ n. self.old.left ≡ take n into.new ++ self.new.left) }
+        ensures end { IfOk result (λ n. n ≡ 0 → 0 < length into.old → self.new.left ≡ []) }
+        ensures ended { self.new.ended ≡ shows_end (length into.old) result }
+        ensures none { OnErr result (self.new.left ≡ self.old.left) }
+        ensures cause { Causes (IsErr result) self.old.calls.faults self.new.calls.faults }
+        ensures steady { OnOk result (self.new.calls.faults ≡ self.old.calls.faults) }
+        // The calls that fail are those of the script.
+        ensures fails { IsErr result ↔ IsTrue (is_due self.old.calls) }
+        ensures calls { self.new.calls ≡ after_call (is_due self.old.calls) self.old.calls }
+        ensures step { self.new.step ≡ self.old.step }
+        ensures moves { IfOk result (λ n. n ≡ min (min self.old.step (length self.old.left)) (length into.old)) }
+    {
         self.ended = false;
         if self.script.call() {
             return Err(Failed);
@@ -170,9 +184,21 @@ impl VecSink {
 }
 
 impl Sink for VecSink {
-    ghost seen = { λ s. record { contents = Some s.text; faults = s.calls.faults } };
+    ghost seen = { sink_of };
 
-    fn write(&mut self, from: &[u8]) -> Result<usize, Failed> {
+    fn write(&mut self, from: &[u8]) -> Result<usize, Failed>
+        ensures count { IfOk result (λ n. n ≤ length from.now) }
+        ensures some { IfOk result (λ n. 0 < length from.now → 0 < n) }
+        ensures bytes { IfOk result (λ n. self.new.text ≡ self.old.text ++ take n from.now) }
+        ensures none { OnErr result (self.new.text ≡ self.old.text) }
+        ensures cause { Causes (IsErr result) self.old.calls.faults self.new.calls.faults }
+        ensures steady { OnOk result (self.new.calls.faults ≡ self.old.calls.faults) }
+        // The calls of the script fail, and those that find no memory.
+        ensures due { IsTrue (is_due self.old.calls) → IsErr result }
+        ensures calls { self.new.calls ≡ after_call (is_err result) self.old.calls }
+        ensures step { self.new.step ≡ self.old.step }
+        ensures moves { IfOk result (λ n. n ≡ min self.old.step (length from.now)) }
+    {
         if self.script.call() {
             return Err(Failed);
         }
@@ -242,9 +268,19 @@ fn place_of(inputs: &[InputText], name: &[u8]) -> Option<usize>
 }
 
 impl Inputs for MemoryInputs {
-    ghost seen = { λ s. record { texts = Some s.texts; ended = s.ended; faults = s.calls.faults } };
+    ghost seen = { inputs_of };
 
-    fn input(&mut self, alloc: Global, name: &str) -> Result<Bytes, ReadError> {
+    ghost keeps = { λ old new. new.texts ≡ old.texts };
+
+    fn input(&mut self, alloc: Global, name: &str) -> Result<Bytes, ReadError>
+        ensures gives { GivesInput name.now MOST_INPUT (inputs_of self.old) (inputs_of self.new) result }
+        ensures same { self.new.texts ≡ self.old.texts }
+        ensures later { self.old.calls.faults ≤ self.new.calls.faults }
+        ensures steady { StaysUnlessFailed self.old.calls.faults self.new.calls.faults result }
+        // The calls of the script fail, and those of a name that is not there.
+        ensures exact { OrWant (given_input MOST_INPUT self.old name.now) result }
+        ensures calls { self.new.calls ≡ after_call (has_failed result) self.old.calls }
+    {
         self.ended = false;
         if self.script.call() {
             return Err(ReadError::Failed);

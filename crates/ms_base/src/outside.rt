@@ -1,14 +1,15 @@
 //! The traits of the outside, each with a count of its faults.
 
-ghost use Rattle.std.specs.Prelude.{◌≡◌, ◌<◌, ◌≤◌, length, take, IfOk, IsErr, OnErr};
+ghost use Rattle.std.specs.Prelude.{◌≡◌, ◌<◌, ◌≤◌, length, take, ⊤, IfOk, IsErr, OnErr, OnOk};
 ghost use Rattle.std.specs.Io.KnownBytes.{Appends, Consumes, Keeps, IsAtEnd};
 ghost use Rattle.ms_base.specs.declared.outside.ReadError.TheVariants as errors;
 ghost use Rattle.ms_base.specs.declared.outside.OutsideError.TheVariants as outside_errors;
 ghost use Rattle.ms_base.specs.Counts.{Causes};
 ghost use Rattle.ms_base.specs.Outside.{SourceView, SinkView, InputsView, shows_end, StaysTold};
-ghost use Rattle.ms_base.specs.Reading.{GivesInput};
+ghost use Rattle.ms_base.specs.Reading.{GivesInput, StaysUnlessFailed};
 
 use crate::bytes::{Bytes, NoMemory};
+use crate::limits::INPUT_BYTES;
 use std::alloc::{AllocError, AllocFailed, Global};
 use thiserror::Error;
 
@@ -96,7 +97,8 @@ pub trait Source {
         ensures ended { (seen self.new).ended ≡ shows_end (length into.old) result }
         ensures none { OnErr result (Keeps (seen self.old).left (seen self.new).left) }
         ensures told { StaysTold (seen self.old).left (seen self.new).left }
-        ensures cause { Causes (IsErr result) (seen self.old).faults (seen self.new).faults };
+        ensures cause { Causes (IsErr result) (seen self.old).faults (seen self.new).faults }
+        ensures steady { OnOk result ((seen self.new).faults ≡ (seen self.old).faults) };
 
     fn faults(&self) -> u64
         ensures { result ≡ (seen self.now).faults };
@@ -113,24 +115,30 @@ pub trait Sink {
         ensures bytes { IfOk result (λ n. Appends (seen self.old).contents (seen self.new).contents (take n from.now)) }
         ensures none { OnErr result (Keeps (seen self.old).contents (seen self.new).contents) }
         ensures told { StaysTold (seen self.old).contents (seen self.new).contents }
-        ensures cause { Causes (IsErr result) (seen self.old).faults (seen self.new).faults };
+        ensures cause { Causes (IsErr result) (seen self.old).faults (seen self.new).faults }
+        ensures steady { OnOk result ((seen self.new).faults ≡ (seen self.old).faults) };
 
     fn faults(&self) -> u64
         ensures { result ≡ (seen self.now).faults };
 }
 
 /// The greatest number of bytes of an input.
-pub const MOST_INPUT: u64 = 16_777_216;
+pub const MOST_INPUT: u64 = INPUT_BYTES;
 
 /// Texts by their names.
 pub trait Inputs {
     ghost seen: { Self → InputsView };
 
+    // What a reading keeps, for traits that see more of these inputs.
+    ghost keeps: { Self → Self → Type 0 } = { λ _ _. ⊤ };
+
     /// The text of that name, read to its end.
     fn input(&mut self, alloc: Global, name: &str) -> Result<Bytes, ReadError>
         ensures gives { GivesInput name.now MOST_INPUT (seen self.old) (seen self.new) result }
         ensures same { (seen self.new).texts ≡ (seen self.old).texts }
-        ensures later { (seen self.old).faults ≤ (seen self.new).faults };
+        ensures kept { keeps self.old self.new }
+        ensures later { (seen self.old).faults ≤ (seen self.new).faults }
+        ensures steady { StaysUnlessFailed (seen self.old).faults (seen self.new).faults result };
 
     fn faults(&self) -> u64
         ensures { result ≡ (seen self.now).faults };

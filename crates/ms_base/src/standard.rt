@@ -1,6 +1,6 @@
-//! The readers and writers of std, with a count of their faults. What real files and terminals hold is not told.
+//! The readers and writers of std, with a count of their faults. What they tell of their bytes is told.
 
-ghost use Rattle.std.specs.Prelude.{◌≡◌, false, None};
+ghost use Rattle.std.specs.Prelude.{◌≡◌, false};
 
 use crate::outside::{Failed, Sink, Source};
 use std::io::{Read, Write};
@@ -27,7 +27,7 @@ impl<R> StdSource<R> {
 }
 
 impl<R: Read + Drop> Source for StdSource<R> {
-    ghost seen = { λ s. record { left = None; ended = s.ended; faults = s.faults } };
+    ghost seen = { λ s. record { left = R.remaining s.from; ended = s.ended; faults = s.faults } };
 
     fn read(&mut self, into: &mut [u8]) -> Result<usize, Failed> {
         match self.from.read(into) {
@@ -65,7 +65,7 @@ impl<W> StdSink<W> {
 }
 
 impl<W: Write + Drop> Sink for StdSink<W> {
-    ghost seen = { λ s. record { contents = None; faults = s.faults } };
+    ghost seen = { λ s. record { contents = W.contents s.to; faults = s.faults } };
 
     fn write(&mut self, from: &[u8]) -> Result<usize, Failed> {
         match self.to.write(from) {

@@ -1,8 +1,8 @@
 //! Whole texts from a source, and into a sink.
 
-ghost use Rattle.std.specs.Prelude.{◌≡◌, ◌<◌, ◌≤◌, ◌^◌, ◌-◌, ◌+◌, length, IfOk, vec_len, OnErr};
+ghost use Rattle.std.specs.Prelude.{◌≡◌, ◌<◌, ◌≤◌, ◌^◌, ◌-◌, ◌+◌, length, IfOk, vec_len, OnErr, OnOk};
 ghost use Rattle.ms_base.specs.Outside.{SourceView, SinkView, StaysTold};
-ghost use Rattle.ms_base.specs.Reading.{ReadsAll, ReadsPiece, WritesAll};
+ghost use Rattle.ms_base.specs.Reading.{ReadsAll, ReadsPiece, StaysUnlessFailed, WritesAll};
 
 use crate::bytes::Bytes;
 use crate::outside::{Failed, ReadError, Sink, Source};
@@ -28,6 +28,7 @@ fn read_piece<S: Source>(
     ensures piece { ReadsPiece (length piece.old) (S.seen source.old) (S.seen source.new) text.old.items text.new.items result }
     ensures told { StaysTold (S.seen source.old).left (S.seen source.new).left }
     ensures later { (S.seen source.old).faults ≤ (S.seen source.new).faults }
+    ensures steady { StaysUnlessFailed (S.seen source.old).faults (S.seen source.new).faults result }
 {
     match source.read(piece) {
         Err(_) => Err(ReadError::Failed),
@@ -46,6 +47,7 @@ pub fn read_all<S: Source>(alloc: Global, source: &mut S, limit: u64) -> Result<
     ensures all { ReadsAll limit (S.seen source.old) (S.seen source.new) result }
     ensures told { StaysTold (S.seen source.old).left (S.seen source.new).left }
     ensures later { (S.seen source.old).faults ≤ (S.seen source.new).faults }
+    ensures steady { StaysUnlessFailed (S.seen source.old).faults (S.seen source.new).faults result }
 {
     let most = limit as usize + 1;
     let mut text = Vec::new(alloc);
@@ -66,6 +68,7 @@ pub fn write_all<S: Sink>(sink: &mut S, text: &[u8]) -> Result<(), Failed>
     ensures all { WritesAll text.now (S.seen sink.old) (S.seen sink.new) result }
     ensures told { StaysTold (S.seen sink.old).contents (S.seen sink.new).contents }
     ensures later { (S.seen sink.old).faults ≤ (S.seen sink.new).faults }
+    ensures steady { OnOk result ((S.seen sink.new).faults ≡ (S.seen sink.old).faults) }
 {
     let mut at = 0;
     while at < text.len() {

@@ -10,7 +10,7 @@ invariant-loop-text g l = record {
   most_is : l.most ≡ l.limit + 1;
   room : vec_len l.piece ≡ 65536;
   told : StaysTold (g.S.Source.seen l.fn.source).left (g.S.Source.seen l.source).left;
-  later : (g.S.Source.seen l.fn.source).faults ≤ (g.S.Source.seen l.source).faults;
+  steady : (g.S.Source.seen l.source).faults ≡ (g.S.Source.seen l.fn.source).faults;
 }
 
 abbrev pub decreases-loop-text : goal.decreases-loop-text

@@ -8,7 +8,7 @@ invariant-loop-at g l = record {
   within : l.at ≤ length l.text;
   went : Appends (g.S.Sink.seen l.fn.sink).contents (g.S.Sink.seen l.sink).contents (take l.at l.text);
   told : StaysTold (g.S.Sink.seen l.fn.sink).contents (g.S.Sink.seen l.sink).contents;
-  later : (g.S.Sink.seen l.fn.sink).faults ≤ (g.S.Sink.seen l.sink).faults;
+  steady : (g.S.Sink.seen l.sink).faults ≡ (g.S.Sink.seen l.fn.sink).faults;
 }
 
 abbrev pub decreases-loop-at : goal.decreases-loop-at
