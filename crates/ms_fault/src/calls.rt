@@ -12,9 +12,10 @@ use crate::altering::altered;
 use crate::change::Change;
 use crate::fault::Fault;
 use crate::link::FaultLink;
+use ms_base::limits::OBJECT_BYTES;
 use ms_base::{Bytes, Name, ServiceId};
 use ms_core::{Common, FoldClosed, Know};
-use ms_link::{Link, LinkError, MOST_OBJECT, Texts};
+use ms_link::{Link, LinkError, Texts};
 use ms_record::ListId;
 use std::alloc::Global;
 
@@ -38,7 +39,7 @@ impl<L: Link<FoldClosed>> Link<FoldClosed> for FaultLink<L> {
         text: &[u8],
     ) -> Result<(), LinkError>
         requires board { IsOnBoard (link_of self.old) board.now pass.old }
-        requires short { length text.now ≤ MOST_OBJECT }
+        requires short { length text.now ≤ OBJECT_BYTES }
         requires closed { MayFollow IsClosed (link_of self.old).board.words pass.old.lists (link_of self.old).service (Log (Rec list text.now)) }
         ensures tells { Tells (link_of self.old) (link_of self.new) pass.old pass.new (Rec list text.now) result }
         ensures link { Stays (link_of self.old) (link_of self.new) }
@@ -91,7 +92,7 @@ impl<L: Link<FoldClosed>> Link<FoldClosed> for FaultLink<L> {
         text: &[u8],
     ) -> Result<(), LinkError>
         requires board { IsOnBoard (link_of self.old) board.now pass.old }
-        requires short { length text.now ≤ MOST_OBJECT }
+        requires short { length text.now ≤ OBJECT_BYTES }
         requires closed { MayFollow IsClosed (link_of self.old).board.words pass.old.lists (link_of self.old).service (Log (Stored generation name.now text.now)) }
         ensures puts { Puts (link_of self.old) (link_of self.new) pass.old pass.new generation (Stored generation name.now text.now) result }
         ensures link { Stays (link_of self.old) (link_of self.new) }

@@ -7,9 +7,10 @@ ghost use Rattle.ms_link.specs.Links.{IsOnBoard, Stays, Learns};
 ghost use Rattle.ms_core.specs.Views.{IsClosed};
 ghost use Rattle.ms_record.specs.declared.item.Item.TheVariants.{Log};
 
+use ms_base::limits::OBJECT_BYTES;
 use ms_base::{Bytes, Name, NoMemory};
 use ms_core::{Common, FoldClosed, Know};
-use ms_link::{Link, LinkError, MOST_OBJECT};
+use ms_link::{Link, LinkError};
 use ms_record::{ListId, LogEvent};
 use std::alloc::Global;
 
@@ -83,7 +84,7 @@ pub(crate) fn send<L: Link<FoldClosed>>(
     change: Change,
 ) -> Result<(), LinkError>
     requires board { IsOnBoard (L.sees link.old) board.now pass.old }
-    requires short { size_of (event_of change) ≤ MOST_OBJECT }
+    requires short { size_of (event_of change) ≤ OBJECT_BYTES }
     requires closed { MayFollow IsClosed (L.sees link.old).board.words pass.old.lists (L.sees link.old).service (Log (event_of change)) }
     ensures changes { Changes (L.sees link.old) (L.sees link.new) pass.old pass.new (event_of change.entry) result }
     ensures link { Stays (L.sees link.old) (L.sees link.new) }

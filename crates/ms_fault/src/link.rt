@@ -15,8 +15,9 @@ use crate::change::{Change, kept, send};
 use crate::fault::Fault;
 use crate::late::{LateChange, catch_up};
 use ms_base::NoMemory;
+use ms_base::limits::OBJECT_BYTES;
 use ms_core::{Common, FoldClosed, Know};
-use ms_link::{Link, LinkError, MOST_OBJECT};
+use ms_link::{Link, LinkError};
 use std::alloc::Global;
 use std::marker::Model;
 
@@ -108,7 +109,7 @@ impl<L: Link<FoldClosed>> FaultLink<L> {
     /// The change is done, and its answer is not looked at.
     fn act(&mut self, alloc: Global, board: &Common, pass: &mut Know, change: Change)
         requires board { IsOnBoard self.old.inner board.now pass.old }
-        requires short { size_of (event_of change) ≤ MOST_OBJECT }
+        requires short { size_of (event_of change) ≤ OBJECT_BYTES }
         requires closed { MayFollow IsClosed self.old.inner.board.words pass.old.lists self.old.inner.service (Log (event_of change)) }
         ensures acted { IsActed self.old self.new }
         ensures pass { Learns pass.old pass.new }
@@ -125,7 +126,7 @@ impl<L: Link<FoldClosed>> FaultLink<L> {
         change: Change,
     ) -> Result<(), LinkError>
         requires board { IsOnBoard self.old.inner board.now pass.old }
-        requires short { size_of (event_of change) ≤ MOST_OBJECT }
+        requires short { size_of (event_of change) ≤ OBJECT_BYTES }
         requires closed { MayFollow IsClosed self.old.inner.board.words pass.old.lists self.old.inner.service (Log (event_of change)) }
         ensures changes { Changes self.old.inner self.new.inner pass.old pass.new (event_of change.entry) result }
         ensures counts { self.new.faults ≡ faults_after self.old.faults result }
@@ -146,7 +147,7 @@ impl<L: Link<FoldClosed>> FaultLink<L> {
         after: u32,
     ) -> LinkError
         requires board { IsOnBoard self.old.inner board.now pass.old }
-        requires short { size_of (event_of change) ≤ MOST_OBJECT }
+        requires short { size_of (event_of change) ≤ OBJECT_BYTES }
         requires closed { MayFollow IsClosed self.old.inner.board.words pass.old.lists self.old.inner.service (Log (event_of change)) }
         ensures fault { (result ≡ errors.Failed) ⊎ (result ≡ errors.NoMemory) }
         ensures waits { result ≡ errors.Failed → self.new ≡ record self.old { late = self.old.late ++ sent_late self.old.calls pass.old (event_of change.entry) after ∷ []; faults = one_more self.old.faults } }
@@ -171,7 +172,7 @@ impl<L: Link<FoldClosed>> FaultLink<L> {
         after: u32,
     ) -> Result<(), NoMemory>
         requires board { IsOnBoard self.old.inner board.now pass.old }
-        requires short { size_of (event_of change) ≤ MOST_OBJECT }
+        requires short { size_of (event_of change) ≤ OBJECT_BYTES }
         requires closed { MayFollow IsClosed self.old.inner.board.words pass.old.lists self.old.inner.service (Log (event_of change)) }
         ensures waits { OnOk result (self.new ≡ record self.old { late = self.old.late ++ sent_late self.old.calls pass.old (event_of change.entry) after ∷ [] }) }
         ensures lost { OnErr result (self.new ≡ self.old) }
@@ -195,7 +196,7 @@ impl<L: Link<FoldClosed>> FaultLink<L> {
         change: Change,
     ) -> Result<(), LinkError>
         requires board { IsOnBoard (link_of self.old) board.now pass.old }
-        requires short { size_of (event_of change) ≤ MOST_OBJECT }
+        requires short { size_of (event_of change) ≤ OBJECT_BYTES }
         requires closed { MayFollow IsClosed (link_of self.old).board.words pass.old.lists (link_of self.old).service (Log (event_of change)) }
         ensures script { ChangesBy (due self.old) self.old self.new pass.old pass.new (event_of change.entry) result }
         ensures counts { self.new.faults ≡ faults_after self.old.faults result }

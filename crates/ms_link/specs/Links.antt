@@ -3,7 +3,7 @@ use Rattle.std.specs.Prelude.{◌≡◌, ℕ, ◌<◌, ◌≤◌, Bool, true, fa
 use Rattle.ms_base.specs.Counts.{Rose}
 use Rattle.ms_base.specs.declared.names.Name.{Name}
 use Rattle.ms_ken.specs.Known.{TableId, Known}
-use Rattle.ms_ken.specs.Lists.{list_at, Begins}
+use Rattle.ms_ken.specs.Lists.{list_at, Begins, MayFollow}
 use Rattle.ms_link.specs.declared.fault.LinkError.{LinkError}
 use Rattle.ms_link.specs.declared.fault.LinkError.TheVariants as errors
 use Rattle.ms_record.specs.declared.item.Item.{Item}
@@ -33,6 +33,10 @@ WhereKept link P = link.lists ≡ true → link.objects ≡ true → P
 pub record IsOnBoard (link : LinkView) (board : TableId) (known : Known Item) : Type 0 where
   pub call : board ≡ link.board
   pub pass : known.board ≡ link.board
+
+-- whoever knows this may ask for the event: whatever else is known by then, it may stand at the end of the service's list
+abbrev pub MayAsk : (List (List Item) → Type 0) → LinkView → Known Item → LogEvent → Type 0
+MayAsk closed link pass event = MayFollow closed link.board.words pass.lists link.service (Log event)
 
 -- all but the count of faults stays, and the count does not fall
 pub record Stays (old new : LinkView) : Type 0 where
@@ -112,3 +116,26 @@ Gets link after new generation name (Ok (Some text)) = WhereKept link (IsKept (l
 Gets link after new generation name (Err errors.Failed) = Rose link.faults after.faults
 Gets link after new generation name (Err (errors.Stale floor)) = IsStale link new generation floor
 Gets link after new generation name (Err errors.NoMemory) = Unit {0}
+
+-- the answer `Failed` comes only where the count rose
+abbrev pub CountsFailed : {A : Type 0} → LinkView → LinkView → Result A LinkError → Type 0
+CountsFailed link after result = result ≡ Err errors.Failed → Rose link.faults after.faults
+
+-- what one link tells serves as what the other tells: both lead to one service, and the other tells no more
+pub record PassesOut (inner outer : LinkView) : Type 0 where
+  pub service : outer.service ≡ inner.service
+  pub lists : outer.lists ≡ true → inner.lists ≡ true
+  pub objects : outer.objects ≡ true → inner.objects ≡ true
+
+-- the link is of the board, and leads to this service
+pub record Leads (board : TableId) (service : ℕ) (link : LinkView) : Type 0 where
+  pub on_board : link.board ≡ board
+  pub to_service : link.service ≡ service
+
+-- a desk's links are of its board, each to the service of its place
+abbrev pub AllLead : TableId → List LinkView → Type 0
+AllLead board links = (place : ℕ) (link : LinkView) → slice_get links place ≡ Some link → Leads board place link
+
+-- each of the links tells its lists and its objects
+abbrev pub AllTell : List LinkView → Type 0
+AllTell links = (place : ℕ) (link : LinkView) → slice_get links place ≡ Some link → (link.lists ≡ true) × (link.objects ≡ true)

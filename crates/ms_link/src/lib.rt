@@ -2,10 +2,11 @@
 #![tactic(auto)]
 
 mod fault;
+pub mod law;
 mod link;
 
 pub use fault::LinkError;
-pub use link::{Link, MOST_OBJECT, Texts};
+pub use link::{Link, Texts};
 
 #[cfg(test)]
 mod tests;

@@ -1,12 +1,11 @@
 //! The trait of links.
 
 ghost use Rattle.std.specs.Prelude.{◌≡◌, ◌≤◌, length};
-ghost use Rattle.ms_ken.specs.Lists.{MayFollow};
-ghost use Rattle.ms_link.specs.Links.{LinkView, IsOnBoard, Stays, Learns, Tells, Puts, Lists, Has, Gets};
-ghost use Rattle.ms_record.specs.declared.item.Item.TheVariants.{Log};
+ghost use Rattle.ms_link.specs.Links.{LinkView, IsOnBoard, MayAsk, Stays, Learns, Tells, Puts, Lists, Has, Gets};
 ghost use Rattle.ms_record.specs.declared.log.LogEvent.TheVariants.{Rec, Put as Stored, Drop as Dropped};
 
 use crate::fault::LinkError;
+use ms_base::limits::OBJECT_BYTES;
 use ms_base::{Bytes, Items, Name, ServiceId};
 use ms_ken::{Board, Closed, Pass};
 use ms_record::{Item, ListId};
@@ -14,9 +13,6 @@ use std::alloc::Global;
 
 /// The texts of a list, in order.
 pub type Texts = Items<Bytes>;
-
-/// The greatest number of bytes of a text that a service takes.
-pub const MOST_OBJECT: usize = 33_554_432;
 
 /// A way to one service, which keeps append-only lists, and objects under their names in generations. The service drops
 /// what lies below its *floor*: the greatest generation that a drop named, 0 at first.
@@ -48,8 +44,8 @@ pub trait Link<C: Closed<Event = Item>> {
         text: &[u8],
     ) -> Result<(), LinkError>
         requires board { IsOnBoard (sees self.old) board.now pass.old }
-        requires short { length text.now ≤ MOST_OBJECT }
-        requires closed { MayFollow C.closed (sees self.old).board.words pass.old.lists (sees self.old).service (Log (Rec list text.now)) }
+        requires short { length text.now ≤ OBJECT_BYTES }
+        requires closed { MayAsk C.closed (sees self.old) pass.old (Rec list text.now) }
         ensures tells { Tells (sees self.old) (sees self.new) pass.old pass.new (Rec list text.now) result }
         ensures link { Stays (sees self.old) (sees self.new) }
         ensures pass { Learns pass.old pass.new };
@@ -81,8 +77,8 @@ pub trait Link<C: Closed<Event = Item>> {
         text: &[u8],
     ) -> Result<(), LinkError>
         requires board { IsOnBoard (sees self.old) board.now pass.old }
-        requires short { length text.now ≤ MOST_OBJECT }
-        requires closed { MayFollow C.closed (sees self.old).board.words pass.old.lists (sees self.old).service (Log (Stored generation name.now text.now)) }
+        requires short { length text.now ≤ OBJECT_BYTES }
+        requires closed { MayAsk C.closed (sees self.old) pass.old (Stored generation name.now text.now) }
         ensures puts { Puts (sees self.old) (sees self.new) pass.old pass.new generation (Stored generation name.now text.now) result }
         ensures link { Stays (sees self.old) (sees self.new) }
         ensures pass { Learns pass.old pass.new };
@@ -126,7 +122,7 @@ pub trait Link<C: Closed<Event = Item>> {
         generation: u32,
     ) -> Result<(), LinkError>
         requires board { IsOnBoard (sees self.old) board.now pass.old }
-        requires closed { MayFollow C.closed (sees self.old).board.words pass.old.lists (sees self.old).service (Log (Dropped generation)) }
+        requires closed { MayAsk C.closed (sees self.old) pass.old (Dropped generation) }
         ensures tells { Tells (sees self.old) (sees self.new) pass.old pass.new (Dropped generation) result }
         ensures link { Stays (sees self.old) (sees self.new) }
         ensures pass { Learns pass.old pass.new };
