@@ -12,4 +12,5 @@ mod PlanRules
 mod RecordLaws
 mod RowsFilled
 mod RowsRead
+mod ServicesFilled
 mod Sameness

@@ -12,6 +12,8 @@ pub mod Votes
 pub mod Offers
 pub mod Chains
 pub mod Logs
+pub mod Services
+pub mod ServicesInside
 pub mod Settings
 pub mod Growing
 pub mod Items

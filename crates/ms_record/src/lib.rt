@@ -11,6 +11,7 @@ pub mod plan;
 mod reading;
 pub mod record;
 pub mod refusal;
+pub mod services;
 pub mod setting;
 pub mod writing;
 
@@ -21,6 +22,7 @@ pub use log::{ListId, LogEvent};
 pub use plan::{Plan, PlanRow};
 pub use record::{Record, parse_record};
 pub use refusal::{Place, Refusal, Why};
+pub use services::ServiceSet;
 pub use setting::Setting;
 pub use writing::{write_entry, write_record};
 

@@ -1,0 +1,93 @@
+//! Sets of services.
+
+ghost use Rattle.std.specs.Prelude.{◌≡◌, ◌≤◌, ◌↔◌, Contains, IsTrue, length};
+ghost use Rattle.ms_record.specs.Chains.{voters_of};
+ghost use Rattle.ms_record.specs.Services.{AreServices, numbers_of};
+ghost use Rattle.ms_record.specs.Votes.{services_below};
+
+use crate::plan::{MOST_ROWS, Plan};
+use ms_base::ServiceId;
+use std::marker::Model;
+
+/// Some services of a workspace, at most 16. It takes no memory but its own.
+#[derive(Clone, Copy)]
+pub struct ServiceSet {
+    services: [ServiceId; MOST_ROWS],
+    count: usize,
+}
+
+impl Model for ServiceSet {
+    ghost use Rattle.std.specs.Prelude.{ℕ, List};
+
+    ghost Value = { List ℕ };
+
+    ghost use Rattle.ms_record.specs.ServicesInside.{IsKept, seen, fields_of, fields_back};
+
+    ghost view = { seen };
+
+    ghost invariant = { IsKept };
+
+    ghost inverse = { fields_of };
+
+    ghost inverse_ok = { fields_back };
+}
+
+impl ServiceSet {
+    /// The services of a plan: those that vote where it is in force.
+    pub fn of_plan(plan: &Plan) -> ServiceSet
+        ensures { result ≡ voters_of plan.now }
+    {
+        let rows = plan.rows();
+        let mut services = [ServiceId(0); MOST_ROWS];
+        for i in 0..rows.len() {
+            services[i] = rows[i].service;
+        }
+        ServiceSet {
+            services,
+            count: rows.len(),
+        }
+    }
+
+    /// The first so many services.
+    pub fn all(services: u32) -> ServiceSet
+        requires { services ≤ 16 }
+        ensures { result ≡ services_below services }
+    {
+        let mut all = [ServiceId(0); MOST_ROWS];
+        for i in 0..services {
+            all[i as usize] = ServiceId(i);
+        }
+        ServiceSet {
+            services: all,
+            count: services as usize,
+        }
+    }
+
+    /// Whether the service is one of them.
+    pub fn has(&self, service: ServiceId) -> bool
+        ensures { IsTrue result ↔ Contains self.now service.0 }
+    {
+        for own in self.as_slice() {
+            if own.0 == service.0 {
+                return true;
+            }
+        }
+        false
+    }
+
+    /// How many there are.
+    pub fn len(&self) -> usize
+        ensures count { result ≡ length self.now }
+        ensures few { result ≤ 16 }
+    {
+        self.count
+    }
+
+    /// The services, rising.
+    pub fn as_slice(&self) -> &[ServiceId]
+        ensures are { numbers_of result.now ≡ self.now }
+        ensures rules { AreServices self.now }
+    {
+        &self.services[..self.count]
+    }
+}
