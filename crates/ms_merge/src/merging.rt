@@ -2,7 +2,7 @@
 
 ghost use Rattle.std.specs.Prelude.{◌≡◌, ℕ, List, map, IfOk};
 ghost use Rattle.ms_tree.specs.Files.{text_at};
-ghost use Rattle.ms_text.specs.Labels.{IsLabel};
+ghost use Rattle.ms_text.specs.Labels.{IsClientLabel};
 ghost use Rattle.ms_tree.specs.Merging.{Merges, MayMerge, KeepsChanges};
 ghost use Rattle.ms_tree.specs.DraftFiles.{drafted};
 ghost use Rattle.ms_merge.specs.Settling.{settled_at, Removes, HasMerged};
@@ -27,7 +27,7 @@ pub fn merge(
     theirs: &Files,
     tag: &str,
 ) -> Result<Files, Refusal>
-    requires { IsLabel tag.now }
+    requires { IsClientLabel tag.now }
     ensures merges { Merges base.now ours.now theirs.now tag.now result }
     ensures keeps_ours { IfOk result (λ files. KeepsChanges base.now ours.now tag.now files) }
     ensures keeps_theirs { IfOk result (λ files. KeepsChanges base.now theirs.now tag.now files) }

@@ -4,7 +4,7 @@ use Rattle.std.specs.Prelude.{nat_le}
 use Rattle.std.specs.List.{list_any}
 use Rattle.std.proofs.lemmas.Bool.{leb-true}
 use Rattle.ms_plan.specs.Drafts.{AreLabels, AreNumbers, DraftView, IsCapacity, IsDraft, has_copies, labels_of}
-use Rattle.ms_text.specs.Labels.{IsLabel}
+use Rattle.ms_text.specs.Labels.{IsClientLabel}
 use Rattle.ms_plan.specs.declared.config_line.ServiceLine.{ServiceLine}
 use Rattle.ms_plan.proofs.LabelLists.{last_or, more_labels, used_labels, labels-push}
 use Rattle.ms_plan.proofs.Tests.{both}
@@ -15,7 +15,7 @@ capacity_fits unit capacity h =
     record { some_copies = leb-true 1 (capacity / unit) b.0; few_copies = leb-true (capacity / unit) 16 b.1 }
 
 pub service_kept : (draft : DraftView) (services : List ServiceLine) (service : ServiceLine) → IsDraft draft → services ≡ draft.services ++ service ∷ [] → length draft.clients ≡ 0 → length draft.services < 16
-    → has_copies draft.unit service.capacity ≡ true → IsLabel service.label → list_any (λ (s : ServiceLine). bytes_eq s.label service.label) draft.services ≡ false
+    → has_copies draft.unit service.capacity ≡ true → IsClientLabel service.label → list_any (λ (s : ServiceLine). bytes_eq s.label service.label) draft.services ≡ false
     → IsDraft (record draft { services = services })
 service_kept draft services service h is none few copies form free = subst (λ (ss : List ServiceLine). IsDraft (record draft { services = ss })) (sym is) (record {
   some_replicas = h.some_replicas;
@@ -35,7 +35,7 @@ service_kept draft services service h is none few copies form free = subst (λ (
 })
 
 pub client_kept : (draft : DraftView) (clients : List (List ℕ)) (label : List ℕ) → IsDraft draft → clients ≡ draft.clients ++ label ∷ [] → draft.replicas ≤ length draft.services → length draft.clients < 16
-    → IsLabel label → list_any (λ l. bytes_eq l label) draft.clients ≡ false → IsDraft (record draft { clients = clients })
+    → IsClientLabel label → list_any (λ l. bytes_eq l label) draft.clients ≡ false → IsDraft (record draft { clients = clients })
 client_kept draft clients label h is enough few form free = subst (λ (cs : List (List ℕ)). IsDraft (record draft { clients = cs })) (sym is) (record {
   some_replicas = h.some_replicas;
   few_replicas = h.few_replicas;

@@ -8,7 +8,7 @@ use Rattle.std.proofs.lemmas.List.Sums.{fails_before_first, passes_at_first}
 use Rattle.std.proofs.lemmas.Option.{slice_get_within, get_or_from_slice_get, slice_get-get_or}
 use Rattle.std.proofs.lemmas.Slice.Eq.{bytes_eq-Decides}
 use Rattle.ms_plan.specs.Drafts.{AreLabels, labels_of}
-use Rattle.ms_text.specs.Labels.{IsLabel}
+use Rattle.ms_text.specs.Labels.{IsClientLabel}
 use Rattle.ms_plan.specs.declared.config_line.ServiceLine.{ServiceLine}
 use Rattle.ms_plan.proofs.Tests.{same_some}
 
@@ -36,9 +36,9 @@ last_or (z ∷ xs) y x zero e = inl e
 last_or (z ∷ xs) y x (suc i) e = elim (last_or xs y x i e) [ inl h ↦ inl h | inr h ↦ inr (ap suc h.0, h.1) ]
 
 -- one label more, which no one uses
-pub more_labels : (labels : List (List ℕ)) (label : List ℕ) → AreLabels labels → IsLabel label → list_any (λ l. bytes_eq l label) labels ≡ false → AreLabels (labels ++ label ∷ [])
+pub more_labels : (labels : List (List ℕ)) (label : List ℕ) → AreLabels labels → IsClientLabel label → list_any (λ l. bytes_eq l label) labels ≡ false → AreLabels (labels ++ label ∷ [])
 more_labels labels label h form free = record {
-  form = λ i l at. elim (last_or labels label l i at) [ inl there ↦ h.form i l there | inr new ↦ subst IsLabel new.1 form ];
+  form = λ i l at. elim (last_or labels label l i at) [ inl there ↦ h.form i l there | inr new ↦ subst IsClientLabel new.1 form ];
   differ = λ i j l at other.
       elim (last_or labels label l i at) [
         | inl a ↦ elim (last_or labels label l j other) [ inl b ↦ h.differ i j l a b | inr b ↦ absurd (taken i l a b.1) ]

@@ -10,7 +10,7 @@ use Rattle.serde_json.specs.Events.{members_len}
 use Rattle.serde_json.specs.Find.{get, as_number, as_str, as_u64}
 use Rattle.serde_json.specs.Read.{max_depth, of_json, read}
 use Rattle.ms_plan.specs.ConfigLines.{HasLabel, client_in, data_of, first_of, head_in, json_of, key_count, label_in, line_at, line_in, number_in, service_in}
-use Rattle.ms_text.specs.Labels.{IsLabel, is_label, label_if}
+use Rattle.ms_text.specs.Labels.{IsClientLabel, is_label, label_if}
 use Rattle.ms_plan.specs.declared.config_line.Line.{Line}
 use Rattle.ms_plan.specs.declared.config_line.Line.TheVariants as forms
 use Rattle.ms_plan.specs.declared.config_line.ServiceLine.{ServiceLine}
@@ -59,12 +59,12 @@ text_there (Some (string t)) s e = ap (λ (x : List ℕ). Some (string x)) (same
 text_there (Some (array ds)) s e = absurd (cc)
 text_there (Some (object ms)) s e = absurd (cc)
 
-label_there : (o : Option Data) (l : List ℕ) → option_and_then label_if (option_and_then as_str o) ≡ Some l → (o ≡ Some (string l)) × IsLabel l
+label_there : (o : Option Data) (l : List ℕ) → option_and_then label_if (option_and_then as_str o) ≡ Some l → (o ≡ Some (string l)) × IsClientLabel l
 label_there o l e =
     let s = and_some label_if (option_and_then as_str o) l e in
     let t = where_true (is_label s.0) (Some s.0) l s.2 in
     let same : s.0 ≡ l = same_some s.0 l t.1 in
-    (text_there o l (s.1 ∙ ap (λ (x : List ℕ). Some x) same), subst IsLabel same (label_passes s.0 t.0))
+    (text_there o l (s.1 ∙ ap (λ (x : List ℕ). Some x) same), subst IsClientLabel same (label_passes s.0 t.0))
 
 -- each of these is a value of it
 FoundAt : Members → Data → Type 0

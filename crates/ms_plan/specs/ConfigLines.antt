@@ -7,7 +7,7 @@ use Rattle.serde_json.specs.Events.{members_len}
 use Rattle.serde_json.specs.Find.{get, as_number, as_object, as_str, as_u64}
 use Rattle.serde_json.specs.Read.{read}
 use Rattle.ms_base.specs.Options.{◌>>=◌}
-use Rattle.ms_text.specs.Labels.{IsLabel, label_if}
+use Rattle.ms_text.specs.Labels.{IsClientLabel, label_if}
 use Rattle.ms_plan.specs.declared.config_line.Line.{Line}
 use Rattle.ms_plan.specs.declared.config_line.Line.TheVariants as forms
 
@@ -70,5 +70,5 @@ data_of (forms.Client label) = object (member (codes "client") (string label) no
 -- where it has a label, that is one
 abbrev pub HasLabel : Line → Type 0
 HasLabel (forms.Head replicas unit) = Unit {0}
-HasLabel (forms.Service service) = IsLabel service.label
-HasLabel (forms.Client label) = IsLabel label
+HasLabel (forms.Service service) = IsClientLabel service.label
+HasLabel (forms.Client label) = IsClientLabel label

@@ -4,7 +4,7 @@ use Rattle.std.specs.List.{list_any}
 use Rattle.ms_plan.specs.declared.config_line.Line.{Line}
 use Rattle.ms_plan.specs.declared.config_line.Line.TheVariants as forms
 use Rattle.ms_plan.specs.declared.config_line.ServiceLine.{ServiceLine}
-use Rattle.ms_text.specs.Labels.{IsLabel}
+use Rattle.ms_text.specs.Labels.{IsClientLabel}
 
 -- what the head says, the services, and the labels of the clients, in their order
 pub record DraftView : Type 0 where
@@ -49,7 +49,7 @@ labels_of services = map (λ (s : ServiceLine). s.label) services
 
 -- each is a label, and no two are alike
 pub record AreLabels (labels : List (List ℕ)) : Type 0 where
-  pub form : (i : ℕ) (label : List ℕ) → slice_get labels i ≡ Some label → IsLabel label
+  pub form : (i : ℕ) (label : List ℕ) → slice_get labels i ≡ Some label → IsClientLabel label
   pub differ : (i j : ℕ) (label : List ℕ) → slice_get labels i ≡ Some label → slice_get labels j ≡ Some label → i ≡ j
 
 -- a capacity of 1 to 16 units, rounded down

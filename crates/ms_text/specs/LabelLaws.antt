@@ -4,7 +4,7 @@ use Rattle.std.specs.Prelude.{◌==◌, ◌&&◌, not, IsTrue, ◌↔◌}
 use Rattle.std.specs.List.{list_all}
 use Rattle.std.proofs.lemmas.Bool.{leb-true, le-leb, eqb-true}
 use Rattle.std.proofs.lemmas.List.Sums.{AllPass-from_list_all, list_all-from_AllPass}
-use Rattle.ms_text.specs.Labels.{IsLabel, is_label, is_label_byte}
+use Rattle.ms_text.specs.Labels.{IsClientLabel, is_label, is_label_byte}
 
 both : (a b : Bool) → (a && b) ≡ true → (a ≡ true) × (b ≡ true)
 both true true h = (refl, refl)
@@ -22,7 +22,7 @@ true_unless : (b : Bool) → (b ≡ true → ⊥) → not b ≡ true
 true_unless true h = absurd (h refl)
 true_unless false h = refl
 
-pub label_passes : (text : List ℕ) → is_label text ≡ true → IsLabel text
+pub label_passes : (text : List ℕ) → is_label text ≡ true → IsClientLabel text
 unfolding is_label
 label_passes text h =
     let a = both _ (list_all is_label_byte text) h in
@@ -35,7 +35,7 @@ label_passes text h =
       bytes = AllPass-from_list_all is_label_byte text a.1;
     }
 
-pub label_keeps : (text : List ℕ) → IsLabel text → is_label text ≡ true
+pub label_keeps : (text : List ℕ) → IsClientLabel text → is_label text ≡ true
 unfolding is_label
 label_keeps text h =
     joined _ (list_all is_label_byte text)
@@ -44,5 +44,5 @@ label_keeps text h =
     (true_unless (get_or text 0 0 == 45) (λ e. h.first (eqb-true (get_or text 0 0) 45 e))))
     (list_all-from_AllPass is_label_byte text h.bytes)
 
-pub label_decided : (b : Bool) (text : List ℕ) → b ≡ is_label text → IsTrue b ↔ IsLabel text
+pub label_decided : (b : Bool) (text : List ℕ) → b ≡ is_label text → IsTrue b ↔ IsClientLabel text
 label_decided b text is = (λ h. label_passes text (sym is ∙ h), λ h. is ∙ label_keeps text h)

@@ -8,7 +8,7 @@ abbrev pub is_label_byte : ℕ → Bool
 is_label_byte b = is_ascii_lowercase b || is_ascii_digit b || (b == 95) || (b == 45)
 
 -- 1 to 24 of these bytes, and the first is not `-`
-pub record IsLabel (text : List ℕ) : Type 0 where
+pub record IsClientLabel (text : List ℕ) : Type 0 where
   pub some : 1 ≤ length text
   pub few : length text ≤ 24
   pub first : slice_index text 0 ≢ 45

@@ -2,7 +2,7 @@
 
 ghost use Rattle.std.specs.Prelude.{◌≡◌, ◌↔◌, IsTrue, IfOk, IsSome};
 ghost use Rattle.std.specs.List.{list_all};
-ghost use Rattle.ms_text.specs.Labels.{IsLabel, is_label, is_label_byte as may_stand, label_if};
+ghost use Rattle.ms_text.specs.Labels.{IsClientLabel, is_label, is_label_byte as may_stand, label_if};
 
 use ms_base::NoMemory;
 use std::alloc::Global;
@@ -16,7 +16,7 @@ const MOST_LABEL: usize = 24;
 /// It is another rule than that of the labels of directories.
 #[tactic(auto, unfolding(crate::specs::Labels::is_label))]
 pub fn is_client_label(text: &[u8]) -> bool
-    ensures exact { IsTrue result ↔ IsLabel text.now }
+    ensures exact { IsTrue result ↔ IsClientLabel text.now }
     ensures test { result ≡ is_label text.now }
 {
     !text.is_empty() && text.len() <= MOST_LABEL && text[0] != b'-' && are_label_bytes(text)
@@ -47,9 +47,9 @@ impl Model for Label {
 
     ghost view = { λ l. string_bytes l.text };
 
-    ghost use Rattle.ms_text.specs.Labels.{IsLabel};
+    ghost use Rattle.ms_text.specs.Labels.{IsClientLabel};
 
-    ghost invariant = { λ l. IsLabel (string_bytes l.text) };
+    ghost invariant = { λ l. IsClientLabel (string_bytes l.text) };
 }
 
 impl Label {
@@ -66,7 +66,7 @@ impl Label {
 
     pub fn as_str(&self) -> &str
         ensures is { result.now ≡ self.now }
-        ensures form { IsLabel self.now }
+        ensures form { IsClientLabel self.now }
     {
         self.text.as_str()
     }

@@ -3,7 +3,7 @@
 ghost use Rattle.std.specs.Prelude.{◌≡◌, ◌<◌, ◌≤◌, ◌^◌, ℕ, List, Some, IfOk, IfSome};
 ghost use Rattle.std.specs.Fmt.{decimal};
 ghost use Rattle.std.specs.Option.{option_map};
-ghost use Rattle.ms_text.specs.Words.{two_words, one_more, number_at, hex_at, bytes_at, name_at};
+ghost use Rattle.ms_text.specs.Words.{WordsAreJoined, two_words, one_more, number_at, hex_at, bytes_at, name_at};
 
 use crate::lines::find_byte;
 use ms_base::NoMemory;
@@ -93,4 +93,10 @@ pub fn name(word: &[u8]) -> Option<[u8; 32]>
 pub fn one_spelling()
     ensures read { (most n : ℕ) (word : List ℕ) → most < 2 ^ 64 → number_at most word ≡ Some n → (word ≡ decimal n) × (n ≤ most) }
     ensures again { (most n : ℕ) (word : List ℕ) → most < 2 ^ 64 → word ≡ decimal n → n ≤ most → number_at most word ≡ Some n }
+{}
+
+/// A law: two words joined by one space are read back.
+#[tactic(auto, using(crate::proofs::Joining::words_joined))]
+pub fn words_are_joined()
+    ensures { WordsAreJoined }
 {}

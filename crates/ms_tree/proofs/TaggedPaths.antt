@@ -11,7 +11,7 @@ use Rattle.std.proofs.lemmas.Str.Ascii.{IsAscii-from_all}
 use Rattle.ms_tree.specs.Paths.{parts_of, IsPart, IsPath, IsDirectoryOf}
 use Rattle.ms_tree.specs.Files.{IsFile}
 use Rattle.ms_tree.specs.Merging.{tagged}
-use Rattle.ms_text.specs.Labels.{IsLabel, is_label_byte}
+use Rattle.ms_text.specs.Labels.{IsClientLabel, is_label_byte}
 use Rattle.ms_tree.proofs.Members.{in_here}
 
 -- ---- what is put behind a path
@@ -62,7 +62,7 @@ tagged_is tag path (suc k) = append_assoc path (46 ∷ tag) (46 ∷ decimal (suc
 dot_plain : (rest : List ℕ) → IsPlain rest → IsPlain (46 ∷ rest)
 dot_plain rest h = All-cons IsPlainByte 46 rest (record { ascii = lit< tt; no_slash = omega arith; no_nul = omega arith }) h
 
-ending_plain : (tag : List ℕ) (k : ℕ) → IsLabel tag → IsPlain (ending tag k)
+ending_plain : (tag : List ℕ) (k : ℕ) → IsClientLabel tag → IsPlain (ending tag k)
 unfolding ending
 ending_plain tag zero is = dot_plain tag (All-weaker (λ (b : ℕ). is_label_byte b ≡ true) IsPlainByte letter_plain tag is.bytes)
 ending_plain tag (suc k) is =
@@ -72,7 +72,7 @@ not_short : (part : List ℕ) → part ≢ [] → 1 ≤ length part
 not_short [] h = absurd (h refl)
 not_short (b ∷ part) h = omega arith
 
-ending_long : (tag : List ℕ) (k : ℕ) → IsLabel tag → 2 ≤ length (ending tag k)
+ending_long : (tag : List ℕ) (k : ℕ) → IsClientLabel tag → 2 ≤ length (ending tag k)
 unfolding ending
 ending_long tag zero is = omega (arith, is.some)
 ending_long tag (suc k) is = omega (arith, is.some, length-append (46 ∷ tag) (46 ∷ decimal (suc (suc k))))
@@ -89,7 +89,7 @@ cut_end (y ∷ dir) rest (x ∷ path) end plain e =
     let d = cut_end dir rest path end plain (let q : path ++ end ≡ dir ++ 47 ∷ rest = cc in q) in
     (d.0, ap (λ (b : ℕ). b ∷ path) same ∙ ap (λ (l : List ℕ). y ∷ l) d.1)
 
-pub directory_of_tagged : (tag path dir : List ℕ) (k : ℕ) → IsLabel tag → IsDirectoryOf dir (tagged tag path k) → IsDirectoryOf dir path
+pub directory_of_tagged : (tag path dir : List ℕ) (k : ℕ) → IsClientLabel tag → IsDirectoryOf dir (tagged tag path k) → IsDirectoryOf dir path
 directory_of_tagged tag path dir k is d = cut_end dir d.0 path (ending tag k) (ending_plain tag k is) (sym (tagged_is tag path k) ∙ d.1)
 
 -- ---- the parts of a path with such an end
@@ -182,5 +182,5 @@ ended_row path end text plain long is =
       text_short = is.text_short;
     }
 
-pub tagged_row : (tag path text : List ℕ) (k : ℕ) → IsLabel tag → IsRow path text → IsRow (tagged tag path k) text
+pub tagged_row : (tag path text : List ℕ) (k : ℕ) → IsClientLabel tag → IsRow path text → IsRow (tagged tag path k) text
 tagged_row tag path text k is row = subst (λ (p : List ℕ). IsRow p text) (sym (tagged_is tag path k)) (ended_row path (ending tag k) text (ending_plain tag k is) (ending_long tag k is) row)

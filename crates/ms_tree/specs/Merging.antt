@@ -11,7 +11,7 @@ use Rattle.ms_base.specs.declared.names.Quantity.{Quantity}
 use Rattle.ms_base.specs.declared.names.Quantity.TheVariants as quantities
 use Rattle.ms_record.specs.declared.refusal.Refusal.{Refusal}
 use Rattle.ms_record.specs.declared.refusal.Refusal.TheVariants as refusals
-use Rattle.ms_text.specs.Labels.{IsLabel}
+use Rattle.ms_text.specs.Labels.{IsClientLabel}
 use Rattle.ms_tree.specs.Paths.{parts_of, long_part, is_directory_of}
 use Rattle.ms_tree.specs.Files.{FileList, text_at, total_of, IsFiles}
 
@@ -93,7 +93,7 @@ pub record MayMerge (base ours theirs : FileList) (tag : List ℕ) : Type 0 wher
   pub base_whole : IsFiles base
   pub ours_whole : IsFiles ours
   pub theirs_whole : IsFiles theirs
-  pub is_tag : IsLabel tag
+  pub is_tag : IsClientLabel tag
 
 -- the merge, which passes no limit
 pub record IsMerged (base ours theirs : FileList) (tag : List ℕ) (files : FileList) : Type 0 where

@@ -2,7 +2,7 @@
 
 ghost use Rattle.std.specs.Prelude.{◌≡◌, ◌≤◌, ℕ, List, length, All};
 ghost use Rattle.ms_tree.specs.Files.{FileList, IsFiles};
-ghost use Rattle.ms_text.specs.Labels.{IsLabel};
+ghost use Rattle.ms_text.specs.Labels.{IsClientLabel};
 ghost use Rattle.ms_tree.specs.Merging.{MayMerge, IsMerge, names_of, Merges, KeepsLimits, PassesLimit, KeepsChanges};
 ghost use Rattle.ms_base.specs.declared.names.Quantity.{Quantity};
 
@@ -24,7 +24,7 @@ pub trait Merger {
         theirs: &Files,
         tag: &str,
     ) -> Result<Files, Refusal>
-        requires { IsLabel tag.now }
+        requires { IsClientLabel tag.now }
         ensures { Merges base.now ours.now theirs.now tag.now result };
 }
 
