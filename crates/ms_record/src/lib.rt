@@ -21,7 +21,7 @@ pub use item::Item;
 pub use log::{ListId, LogEvent};
 pub use plan::{Plan, PlanRow};
 pub use record::{Record, parse_record};
-pub use refusal::{Place, Refusal, Why};
+pub use refusal::{Place, Refusal, Why, wrong_line};
 pub use services::ServiceSet;
 pub use setting::Setting;
 pub use writing::{write_entry, write_record};

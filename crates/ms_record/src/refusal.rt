@@ -94,3 +94,10 @@ impl<T: Drop> From<AllocFailed<T>> for Refusal {
         Refusal::NoMemory
     }
 }
+
+/// The refusal of a text at its first wrong line, counted from 1.
+pub fn wrong_line(place: Place, line: u32) -> Refusal
+    ensures { result ≡ refusals.BadInput place line }
+{
+    Refusal::BadInput { place, line }
+}
