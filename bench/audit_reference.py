@@ -2,7 +2,7 @@
 """An independent `audit`: reads a dump and prints what `metasync audit` is to print, and ends with its status.
 
 It shares no code with the program. It follows docs/FORMATS.md and docs/PROTOCOL.md literally: use it to find the expected
-lines of an example, or through `bench/compare_audit.py` on many random dumps.
+lines of an example, or through `bench/program_tests.py` on many random dumps.
 """
 import hashlib
 import struct

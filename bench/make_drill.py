@@ -5,6 +5,7 @@ usage: bench/make_drill.py COUNT
 The clients push in turn, each behind what it has learned of the others; each bid and each offer reaches nine services.
 """
 import hashlib
+import itertools
 import struct
 import sys
 
@@ -46,11 +47,14 @@ def events():
         learned[client] = position
 
 
+def schedule(count):
+    head = "metasync-drill 1 %d %d 1" % (SERVICES, CLIENTS)
+    return "".join(line + "\n" for line in [head, *itertools.islice(events(), count)])
+
+
 def main():
-    print("metasync-drill 1 %d %d 1" % (SERVICES, CLIENTS))
-    schedule = events()
-    for _ in range(int(sys.argv[1])):
-        print(next(schedule))
+    sys.stdout.write(schedule(int(sys.argv[1])))
 
 
-main()
+if __name__ == "__main__":
+    main()

@@ -4,6 +4,7 @@
 usage: bench/make_dump.py KIND SERVICES BYTES
 KIND is one of
   chain      a chain as long as the bytes allow, each position voted once by all services
+  turns      a chain in which every second member is a plan, so that others vote behind it
   contested  a chain whose positions saw three ballots each, of which the last was chosen
   short      one position, with ever greater ballots that no majority took
   spread     Prepares alone, each at a position of its own
@@ -75,17 +76,38 @@ def foreign(services):
         at += 1
 
 
-def main():
-    kind, services, size = sys.argv[1], int(sys.argv[2]), int(sys.argv[3])
+def turns(services):
+    """A chain in which every second member is a plan, each of other services, of which a bare majority votes behind it."""
+    before, position, voters = GENESIS, 1, list(range(services))
+    while True:
+        entry = push(before, position)
+        if position % 2:
+            named = sorted({position % services, (position // 2) % services, (position // 3) % services})
+            rows = b"".join(struct.pack(">IQ", service, 1) for service in named)
+            entry = b"L" + entry[1:] + struct.pack(">IIIQI", 1, 1, 1, 1, len(named)) + rows
+        for service in voters[: len(voters) // 2 + 1]:
+            yield service, accept(position, 1, 0, entry)
+        voters = named if position % 2 else voters
+        before, position = hashlib.sha256(entry).digest(), position + 1
+
+
+KINDS = {"chain": chain, "turns": turns, "contested": contested, "short": short, "spread": spread, "foreign": foreign}
+
+
+def dump(kind, services, size):
     out = ["metasync-dump 1 %d %s" % (services, GENESIS.hex())]
     length = len(out[0]) + 1
-    for service, text in globals()[kind](services):
+    for service, text in KINDS[kind](services):
         line = "%d %s" % (service, text.hex() or "-")
         length += len(line) + 1
         if length > size:
             break
         out.append(line)
-    sys.stdout.write("\n".join(out) + "\n")
+    return "\n".join(out) + "\n"
+
+
+def main():
+    sys.stdout.write(dump(sys.argv[1], int(sys.argv[2]), int(sys.argv[3])))
 
 
 if __name__ == "__main__":

@@ -1,8 +1,9 @@
 #!/usr/bin/env python3
 """Writes a listing to standard output.
 
-usage: bench/make_listing.py small COUNT | large BYTES
+usage: bench/make_listing.py small COUNT | empty COUNT | large BYTES
   small      so many files of up to 199 bytes each, in 20 folders
+  empty      so many files of no bytes, in 20 folders
   large      one file of so many bytes
 """
 import sys
@@ -19,17 +20,21 @@ def line(path, text):
     return "%s %s\n" % (path.encode().hex(), text.hex() or "-")
 
 
-def main():
-    kind, number = sys.argv[1], int(sys.argv[2])
+def lines(kind, number):
     draw = draws(7)
     if kind == "large":
         text = b"".join(next(draw).to_bytes(4, "big") for _ in range(number // 4 + 1))[:number]
-        sys.stdout.write(line("large.bin", text))
+        yield line("large.bin", text)
         return
     for i in range(number):
-        length = next(draw) % 200
+        length = 0 if kind == "empty" else next(draw) % 200
         text = bytes(next(draw) % 256 for _ in range(length))
-        sys.stdout.write(line("d%d/f%d" % (i % 20, i), text))
+        yield line("d%d/f%d" % (i % 20, i), text)
 
 
-main()
+def main():
+    sys.stdout.writelines(lines(sys.argv[1], int(sys.argv[2])))
+
+
+if __name__ == "__main__":
+    main()

@@ -6,4 +6,5 @@ set -euo pipefail
 # shellcheck source=bench/timing.bash
 source "$(dirname "$(realpath "$0")")/timing.bash"
 
-printf 'three folders of 100,000 files: %s ms\n' "$(median "$program" tests::three_folders_of_100_000_files)"
+want 0 - "$program" tests::three_folders_of_100_000_files
+printf 'three folders of 100,000 files: %s ms\n' "$(median 0 "$program" tests::three_folders_of_100_000_files)"

@@ -1,17 +1,10 @@
-#!/usr/bin/env python3
-"""Compares `metasync drill` with bench/drill_reference.py on random schedules, line by line and by status.
+"""Random schedules, some of them faulty: `schedule(rng)` is the text of one.
 
-usage: bench/compare_drill.py PROGRAM [COUNT [SEED]]
-Events are drawn so that most can happen: the schedule is built along a world of the reference, and an event that can't
-happen ends some of them.
+It is built along a world of the reference, so that most events can happen; one that cannot ends some of them.
 """
-import os
-import random
-import subprocess
-import sys
-import tempfile
+import struct
 
-from drill_reference import Refused, World, drill, parse_event, sha, struct
+from drill_reference import Refused, World, parse_event, sha
 
 EMPTY = b"D\0\0\0\0"
 
@@ -147,30 +140,3 @@ def schedule(rng):
     if rng.random() < 0.05:
         lines.append(rng.choice(["", "start", "offer 0 ", "read 0 0", "turn 0 1 1 1 1 0,0", "place 0 1 -", "bid 0 1 -1 -", "migrate 0 1 0 -"]))
     return "".join(line + "\n" for line in lines).encode()
-
-
-def main():
-    program = os.path.abspath(sys.argv[1])
-    count = int(sys.argv[2]) if len(sys.argv) > 2 else 500
-    rng = random.Random(int(sys.argv[3]) if len(sys.argv) > 3 else 1)
-    seen, chains, differ = {}, 0, 0
-    with tempfile.TemporaryDirectory(dir="/dev/shm") as folder:
-        path = os.path.join(folder, "d")
-        for at in range(count):
-            text = schedule(rng)
-            with open(path, "wb") as f:
-                f.write(text)
-            lines, status = drill(text)
-            run = subprocess.run([program, "drill", path], capture_output=True, check=False)
-            seen[status] = seen.get(status, 0) + 1
-            chains = max(chains, lines.count(" push ") + lines.count(" plan "))
-            if run.stdout.decode() != lines or run.returncode != status or run.stderr:
-                differ += 1
-                with open("drill_differs_%d" % at, "wb") as f:
-                    f.write(text)
-                print("schedule %d differs (drill_differs_%d)" % (at, at))
-    print("%d schedules, statuses %s, longest chain %d, %d differ" % (count, dict(sorted(seen.items())), chains, differ))
-    sys.exit(1 if differ else 0)
-
-
-main()

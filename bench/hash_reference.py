@@ -1,18 +1,13 @@
 #!/usr/bin/env python3
-"""Runs `metasync hash` of the built program and the reference below on listings: on edges made by hand, and on many small
-random ones. Prints the first ten differences, and keeps the listings that show them.
+"""An independent `hash`, by docs/FORMATS.md alone: no line of this repository's code is used.
 
-The reference is by docs/FORMATS.md alone: no line of this repository's code is used.
-
-usage: bench/compare_hash.py PROGRAM [COUNT [SEED]]
+usage: bench/hash_reference.py FILE
+Prints what `metasync hash` has to print, and ends with its status. `edges()` are listings made by hand, each with a title, and
+`random_listing(rng)` is a small random one.
 """
 import hashlib
 import itertools
-import os
-import random
-import subprocess
 import sys
-import tempfile
 
 MOST_INPUT, MOST_PATH, MOST_PART, MOST_LEVELS = 16777216, 1024, 200, 64
 MOST_FILE, MOST_FILES, MOST_TOTAL = 67108864, 100000, 1073741824
@@ -351,51 +346,11 @@ def random_listing(rng):
     return mangled(rng, text) if rng.random() < 0.2 else text
 
 
-# The comparison.
-
-
-class Comparison:
-    def __init__(self, program, folder):
-        self.program, self.folder, self.kinds, self.differences = program, folder, {}, 0
-
-    def case(self, title, text, name="listing"):
-        if text is not None:
-            with open(os.path.join(self.folder, "listing"), "wb") as file:
-                file.write(text)
-        done = subprocess.run([self.program, "hash", name], cwd=self.folder, capture_output=True, timeout=600)
-        got, wanted = (done.stdout.decode(), done.returncode, done.stderr), hash_listing(text) + (b"",)
-        kind = wanted[0].split("\n")[0].rsplit(" ", 1)[0]
-        self.kinds[kind] = self.kinds.get(kind, 0) + 1
-        if got != wanted:
-            self.differences += 1
-            if self.differences <= 10:
-                self.tell(title, text, got, wanted)
-
-    def tell(self, title, text, got, wanted):
-        print("%s differs" % title)
-        if text is not None:
-            kept = os.path.join(tempfile.gettempdir(), "differs.%d.listing" % self.differences)
-            with open(kept, "wb") as file:
-                file.write(text)
-            print("listing:   %r; kept as %s" % (text[:400], kept))
-        print("program:   %r" % (got,))
-        print("reference: %r" % (wanted,))
-
-
 def main():
-    program, count, seed = os.path.abspath(sys.argv[1]), int((sys.argv + ["", "500"])[2] or 500), int((sys.argv + ["", "", "1"])[3] or 1)
-    rng, cases = random.Random(seed), 0
-    with tempfile.TemporaryDirectory() as folder:
-        compared = Comparison(program, folder)
-        compared.case("no such file", None, "absent")
-        compared.case("a folder", None, ".")
-        compared.case("an empty name", None, "")
-        for cases, (title, text) in enumerate(edges(), 4):
-            compared.case("edge: " + title, text)
-        for i in range(count):
-            compared.case("listing %d of seed %d" % (i, seed), random_listing(rng))
-    print("%d edges and %d listings, %d differences; by first word: %s" % (cases, count, compared.differences, dict(sorted(compared.kinds.items()))))
-    sys.exit(compared.differences > 0)
+    with open(sys.argv[1], "rb") as file:
+        said, status = hash_listing(file.read())
+    sys.stdout.write(said)
+    sys.exit(status)
 
 
 if __name__ == "__main__":
