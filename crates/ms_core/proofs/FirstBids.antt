@@ -1,12 +1,15 @@
 -- The bids of client 0 for positions 1 and 2, where one service has a version of nothing.
-use Rattle.std.proofs.Common.{◌≡◌, ℕ, zero, suc, ◌+◌, ◌<◌, ◌≤◌, List, [], ◌∷◌, Option, Some, None, inl, inr, refl, sym, ap, ◌∙◌, subst, slice_get, length, replicate, take, arith}
+use Rattle.std.proofs.Common.{◌≡◌, ℕ, zero, suc, ◌+◌, ◌<◌, ◌≤◌, List, [], ◌∷◌, Option, Some, None, inl, inr, refl, sym, ap, ◌∙◌, subst, slice_get, length, replicate, take, Contains, arith}
 use Rattle.ms_base.specs.declared.names.Name.{Name}
 use Rattle.ms_core.proofs.EmptyVersion.{directory, root, version, top}
 use Rattle.ms_core.proofs.Following.{told_first, event_may_follow}
-use Rattle.ms_core.proofs.OneService.{Read, only, only_zero, only_majority, in_majority, some_service, rows_below, row_marked, whole, put_directory, put_version, supports_prepare, supports_accept, tells_event, tells_offer, not_hasty, not_early, ballot_of_round, first_entry, second_plan, second_entry, prepare, accept, reads_prepare, reads_accept, first_fits, plan_fits, second_fits, rows_are, enough}
+use Rattle.ms_core.proofs.OneService.{Read, only, only_zero, only_majority, in_majority, some_service, rows_below, row_marked, whole, put_directory, put_version, supports_prepare, supports_accept, tells_event, tells_offer, not_hasty, not_early, ballot_of_round, first_entry, second_plan, second_entry, prepare, accept, reads_prepare, reads_accept, first_fits, plan_fits, second_fits, rows_are, enough, genesis_is, first_voters}
+use Rattle.ms_core.proofs.Living.{first_generation}
+use Rattle.ms_core.specs.Valid.{plan_behind}
+use Rattle.std.proofs.lemmas.Bool.{cases_lt}
 use Rattle.ms_core.proofs.Places.{in_none, in_cases, some_same}
 use Rattle.ms_core.proofs.Telling.{tells, offered, log_supported}
-use Rattle.ms_core.specs.FirstBids.{with_put, with_vote, with_offer, IsBid, MayNotOffer, MayDrop, MayNotDrop}
+use Rattle.ms_core.specs.FirstBids.{with_put, with_vote, with_offer, with_drop, IsBid, IsCollected, MayNotOffer, MayDrop, MayNotDrop}
 use Rattle.ms_core.specs.Placing.{OnEnough}
 use Rattle.ms_core.specs.Views.{View, configuration, log_in, offers_told, votes_told, IsWhole, SupportsOffer, SupportsEvent, TellsSetting, IsClosed}
 use Rattle.ms_ken.specs.Lists.{with_item}
@@ -18,15 +21,15 @@ use Rattle.ms_record.specs.declared.log.LogEvent.TheVariants.{Rec, Put, Drop}
 use Rattle.ms_record.specs.declared.record.Record.{Record}
 use Rattle.ms_record.specs.declared.record.Record.TheVariants.{Prepare, Accept}
 use Rattle.ms_record.specs.declared.setting.Setting.{Setting}
-use Rattle.ms_record.specs.Chains.{LinksOn, last_name, IsLinked, all_services, generation_in}
-use Rattle.ms_record.specs.Entries.{IsEntry, name_of}
+use Rattle.ms_record.specs.Chains.{Origin, IsChain, IsChosen, IsLinked, LinksBehind, generation_in, voters_behind}
+use Rattle.ms_record.specs.Entries.{IsEntry}
 use Rattle.ms_record.specs.Logs.{HasPut}
 use Rattle.ms_record.specs.Offers.{Shows, JustifiedBy}
 use Rattle.ms_record.specs.Ballots.{IsAtMost}
 use Rattle.ms_record.specs.Plans.{PlanView}
 use Rattle.ms_record.specs.Reading.{record_at, with_record}
-use Rattle.ms_record.specs.Settings.{IsSetting, origin_of, plan_in}
-use Rattle.ms_record.specs.Votes.{IsTaken, ChosenBy, position_of, ballot_of, services_below}
+use Rattle.ms_record.specs.Settings.{IsSetting, genesis_plan, origin_of}
+use Rattle.ms_record.specs.Votes.{IsTaken, ChosenBy, position_of, ballot_of}
 
 -- ---- the views, one after the other
 
@@ -147,19 +150,19 @@ taken_second e f records is = subst (λ (l : List Record). IsTaken l 3 2 (ballot
     above (suc (suc (suc i))) q before at same = absurd (omega (arith, before))
 
 -- the vote of the only service chooses
-chooses : (setting : Setting) (view : View) (place k : ℕ) (b : Ballot) (e : Entry) → setting.services ≡ 1 → IsTaken (votes_told view 0) place k b e → ChosenBy (votes_told view) (services_below setting.services) k e
-chooses setting view place k b e one h = record {
+chooses : (view : View) (voters : List ℕ) (place k : ℕ) (b : Ballot) (e : Entry) → voters ≡ 0 ∷ [] → IsTaken (votes_told view 0) place k b e → ChosenBy (votes_told view) voters k e
+chooses view voters place k b e one h = record {
   ballot = b;
   part = only;
-  majority = only_majority setting.services one;
+  majority = only_majority voters one;
   taken = λ s is. (place, subst (λ n. IsTaken (votes_told view n) place k b e) (sym (only_zero s is)) h);
 }
 
-justified : (setting : Setting) (view : View) (k : ℕ) (b : Ballot) (e : Entry) → setting.services ≡ 1 → e.client ≡ b.client → Shows (votes_told view 0) k b None → JustifiedBy (votes_told view) (services_below setting.services) k b e
-justified setting view k b e one own h = record {
+justified : (view : View) (voters : List ℕ) (k : ℕ) (b : Ballot) (e : Entry) → voters ≡ 0 ∷ [] → e.client ≡ b.client → Shows (votes_told view 0) k b None → JustifiedBy (votes_told view) voters k b e
+justified view voters k b e one own h = record {
   part = only;
   bests = λ s. None;
-  majority = only_majority setting.services one;
+  majority = only_majority voters one;
   shown = λ s is. subst (λ n. Shows (votes_told view n) k b None) (sym (only_zero s is)) h;
   entry_is = inr (record { none = λ s is. refl; client_is = own });
 }
@@ -177,14 +180,21 @@ tells_promised r setting set =
     tells_event setting (put setting) (Rec (record { 0 = 0 }) (prepare 1)) set wide (tells_put setting set)
     (supports_prepare setting (log_in (put setting)) (offers_told (put setting)) 1 (ballot_of_round 1) (prepare 1) (reads_prepare r 1 (omega arith) (omega arith)))
 
-first_whole : Read → (setting : Setting) (set : IsSetting setting) → setting.services ≡ 1 → IsWhole (log_in (promised setting)) set.plan top
+first_links : (setting : Setting) → LinksBehind (origin_of setting) [] (first_entry setting)
+first_links setting = record { names = refl; plan = tt }
+
+first_whole : Read → (setting : Setting) → IsSetting setting → setting.services ≡ 1 → IsWhole (log_in (promised setting)) (genesis_plan setting) top
 first_whole r setting set one =
     let log = log_in (promised setting) 0 in
     let second : 1 < 3 = omega arith in
     let first : 0 < 3 = omega arith in
-    whole r (λ s name. HasPut (log_in (promised setting) s) set.plan.generation name) set.plan (enough setting set one)
+    subst (λ (p : PlanView). IsWhole (log_in (promised setting)) p top) (sym (genesis_is setting set))
+    (whole r (λ s name. HasPut (log_in (promised setting) s) set.plan.generation name) set.plan (enough setting set one) set.first.format
     (subst (λ g. HasPut log g root) (sym set.first.generation) (object_text directory, (0, first, refl)))
-    (subst (λ g. HasPut log g top) (sym set.first.generation) (object_text version, (1, second, refl)))
+    (subst (λ g. HasPut log g top) (sym set.first.generation) (object_text version, (1, second, refl))))
+
+nothing_linked : (setting : Setting) (votes : ℕ → List Record) → IsLinked votes (origin_of setting) []
+nothing_linked setting votes = record { chosen = λ i e at. absurd (let q : None ≡ Some e = at in cc); links = λ i e at. absurd (let q : None ≡ Some e = at in cc) }
 
 supports_first : Read → (setting : Setting) → IsSetting setting → setting.services ≡ 1
     → SupportsOffer setting (log_in (promised setting)) 0 (offers_told (promised setting) 0) 1 (ballot_of_round 1) (first_entry setting)
@@ -192,14 +202,15 @@ supports_first r setting set one = record {
   declared = record {
     own = refl;
     later = λ k b e has. absurd (in_none (Accept k b e) has);
-    justified = justified setting (promised setting) 1 (ballot_of_round 1) (first_entry setting) one refl (shows_first (votes_told (promised setting) 0) (votes_promised r setting));
-    valid = record {
+    justified = record {
       members = [];
-      linked = record { chosen = λ i e at. absurd (let q : None ≡ Some e = at in cc); links = λ i e at. absurd (let q : None ≡ Some e = at in cc) };
+      linked = nothing_linked setting (votes_told (promised setting));
       at = refl;
-      links = record { names = refl; plan = tt };
-      plan = set.plan;
-      plan_is = set.plan_is;
+      justified = justified (promised setting) (voters_behind (origin_of setting) []) 1 (ballot_of_round 1) (first_entry setting) (first_voters setting set one) refl
+          (shows_first (votes_told (promised setting) 0) (votes_promised r setting));
+    };
+    valid = record {
+      next = record { members = []; linked = nothing_linked setting (votes_told (promised setting)); at = refl; links = first_links setting };
       placed = (first_whole r setting set one).placed;
     };
   };
@@ -235,15 +246,17 @@ first_bid r setting set one = record {
       (ap (λ (l : List Record). slice_get l 1) (read_first r setting [])) (λ i h. nothing_at i (vote_for 1 (first_entry setting)) h);
   takes = event_may_follow (offered_once setting) setting 0 (Rec (record { 0 = 0 }) (accept 1 (first_entry setting))) refl set (some_service setting set) wide (supports_first_vote r setting);
   chosen = record {
-    behind = omega arith;
-    chosen = chooses setting (taken setting) 1 1 (ballot_of_round 1) (first_entry setting) one (taken_first (first_entry setting) [] (votes_told (taken setting) 0) (read_first r setting []));
+    members = [];
+    linked = nothing_linked setting (votes_told (taken setting));
+    at = refl;
+    chosen = chooses (taken setting) (voters_behind (origin_of setting) []) 1 1 (ballot_of_round 1) (first_entry setting) (first_voters setting set one) (taken_first (first_entry setting) [] (votes_told (taken setting) 0) (read_first r setting []));
   };
 }
 
 -- without the two texts there is no offer
-plan_at_first : (setting : Setting) (set : IsSetting setting) (members : List Entry) (plan : PlanView) → 1 ≡ length members + 1 → plan_in setting.genesis.plan members ≡ Some plan → set.plan ≡ plan
-plan_at_first setting set [] plan at is = some_same set.plan plan (sym set.plan_is ∙ is)
-plan_at_first setting set (e ∷ members) plan at is = absurd (omega (arith, at))
+plan_at_first : (setting : Setting) (set : IsSetting setting) (members : List Entry) → 1 ≡ length members + 1 → set.plan ≡ plan_behind setting members (first_entry setting)
+plan_at_first setting set [] at = sym (genesis_is setting set)
+plan_at_first setting set (e ∷ members) at = absurd (omega (arith, at))
 
 no_put : (text : List ℕ) (g : ℕ) (name : Name) → HasPut (Rec (record { 0 = 0 }) text ∷ []) g name → ⊥
 no_put text g name h = elim (in_cases (Rec (record { 0 = 0 }) text) [] (Put g name h.0) h.1) [
@@ -255,8 +268,8 @@ unplaced : (setting : Setting) → IsSetting setting → setting.services ≡ 1 
 unplaced setting set one closed =
     let view = with_offer (with_vote (begun setting) (prepare 1)) 1 (ballot_of_round 1) (first_entry setting) in
     let valid = (offered view setting (tells view setting closed refl) 1 (ballot_of_round 1) (first_entry setting) (0, refl)).1.supports.declared.valid in
-    let same : set.plan ≡ valid.plan = plan_at_first setting set valid.members valid.plan valid.at valid.plan_is in
-    let there = valid.placed.put top valid.placed.top.text valid.placed.top.is in
+    let same = plan_at_first setting set valid.next.members valid.next.at in
+    let there = valid.placed.put top valid.placed.holds.top.text valid.placed.holds.top.is in
     let on : OnEnough (λ s. HasPut (log_in view s) set.plan.generation top) set.plan = subst (λ (p : PlanView). OnEnough (λ s. HasPut (log_in view s) p.generation top) p) (sym same) there in
     let marked = row_marked set.plan.rows on.part (rows_are setting set one) (omega (arith, on.enough, (plan_fits setting set).some_replicas)) in
     no_put (prepare 1) set.plan.generation top (on.have 0 marked)
@@ -272,16 +285,18 @@ no_drop : (setting : Setting) → setting.services ≡ 1 → MayNotDrop (put set
 no_drop setting one closed =
     let view = with_item (put setting) 0 (Log (Drop 2)) in
     let third : 2 < 3 = omega arith in
-    elim (log_supported view setting (tells view setting closed refl) 0 (Drop 2) (2, third, refl)).1 [
+    let h = tells view setting closed refl in
+    elim (log_supported view setting h 0 (Drop 2) (2, third, refl)).1 [
       | inl low ↦ omega (arith, low)
-      | inr b ↦ unchosen b.0 b.1 b.2
+      | inr b ↦ unchosen h.ranges b.0 b.1 b.2
     ]
   where
-    unchosen : (members : List Entry) → IsLinked (votes_told (with_item (put setting) 0 (Log (Drop 2)))) (all_services setting.services) (origin_of setting) members → 2 ≤ generation_in 1 members → ⊥
-    unchosen [] linked le = omega (arith, le)
-    unchosen (e ∷ members) linked le =
+    unchosen : IsSetting setting → (members : List Entry) → IsLinked (votes_told (with_item (put setting) 0 (Log (Drop 2)))) (origin_of setting) members → 2 ≤ generation_in (genesis_plan setting) members → ⊥
+    unchosen set [] linked le = omega (arith, le, first_generation setting set)
+    unchosen set (e ∷ members) linked le =
         let c = linked.chosen 0 e refl in
-        let t = c.taken 0 (in_majority setting.services c.part one c.majority) in
+        let votes = votes_told (with_item (put setting) 0 (Log (Drop 2))) in
+        let t = c.taken 0 (in_majority setting set one votes [] (nothing_linked setting votes) c.part c.majority) in
         nothing_at t.0 (Accept 1 c.ballot e) t.1.stands
 
 -- ---- the second bid, with a plan
@@ -302,54 +317,53 @@ second_whole : Read → (setting : Setting) (set : IsSetting setting) → settin
 second_whole r setting set one =
     let fifth : 4 < 7 = omega arith in
     let sixth : 5 < 7 = omega arith in
-    whole r (λ s name. HasPut (log_in (promised_again setting) s) 2 name) (second_plan setting set) (enough setting set one)
+    whole r (λ s name. HasPut (log_in (promised_again setting) s) 2 name) (second_plan setting set) (enough setting set one) set.first.format
     (object_text directory, (4, fifth, refl))
     (object_text version, (5, sixth, refl))
 
-first_links : (setting : Setting) → LinksOn (name_of setting.genesis) 1 setting.services (first_entry setting)
-first_links setting = record { names = refl; plan = tt }
-
-second_links : (setting : Setting) (set : IsSetting setting) → setting.services ≡ 1 → LinksOn (name_of (first_entry setting)) 1 setting.services (second_entry setting set)
+second_links : (setting : Setting) (set : IsSetting setting) → setting.services ≡ 1 → LinksBehind (origin_of setting) (first_entry setting ∷ []) (second_entry setting set)
 second_links setting set one = record {
   names = refl;
   plan = record {
     known = λ i row at. rows_below set.plan.rows setting.services i row (some_service setting set) (rows_are setting set one) at;
-    format = (plan_fits setting set).format;
-    not_below = omega arith;
+    known_format = (plan_fits setting set).last_format;
+    format_stays = omega (arith, ap (λ (p : PlanView). p.format) (genesis_is setting set));
+    not_below = omega (arith, first_generation setting set);
   };
 }
 
-linked_one : (setting : Setting) (view : View) → ChosenBy (votes_told view) (services_below setting.services) 1 (first_entry setting)
-    → IsLinked (votes_told view) (all_services setting.services) (origin_of setting) (first_entry setting ∷ [])
-linked_one setting view c = record { chosen = chosen; links = links }
+linked_one : (setting : Setting) (votes : ℕ → List Record) → ChosenBy votes (voters_behind (origin_of setting) []) 1 (first_entry setting) → IsLinked votes (origin_of setting) (first_entry setting ∷ [])
+linked_one setting votes c = record { chosen = chosen; links = links }
   where
-    chosen : (i : ℕ) (e : Entry) → slice_get (first_entry setting ∷ []) i ≡ Some e → ChosenBy (votes_told view) (services_below setting.services) (i + 1) e
-    chosen zero e at = subst (λ (x : Entry). ChosenBy (votes_told view) (services_below setting.services) 1 x) (some_same (first_entry setting) e at) c
+    chosen : (i : ℕ) (e : Entry) → slice_get (first_entry setting ∷ []) i ≡ Some e → ChosenBy votes (voters_behind (origin_of setting) (take i (first_entry setting ∷ []))) (i + 1) e
+    chosen zero e at = subst (λ (x : Entry). ChosenBy votes (voters_behind (origin_of setting) []) 1 x) (some_same (first_entry setting) e at) c
     chosen (suc i) e at = absurd (let q : None ≡ Some e = at in cc)
 
-    links : (i : ℕ) (e : Entry) → slice_get (first_entry setting ∷ []) i ≡ Some e
-        → LinksOn (last_name (name_of setting.genesis) (take i (first_entry setting ∷ []))) (generation_in 1 (take i (first_entry setting ∷ []))) setting.services e
-    links zero e at = subst (λ (x : Entry). LinksOn (name_of setting.genesis) 1 setting.services x) (some_same (first_entry setting) e at) (first_links setting)
+    links : (i : ℕ) (e : Entry) → slice_get (first_entry setting ∷ []) i ≡ Some e → LinksBehind (origin_of setting) (take i (first_entry setting ∷ [])) e
+    links zero e at = subst (λ (x : Entry). LinksBehind (origin_of setting) [] x) (some_same (first_entry setting) e at) (first_links setting)
     links (suc i) e at = absurd (let q : None ≡ Some e = at in cc)
 
-linked_two : (setting : Setting) (set : IsSetting setting) (view : View) → setting.services ≡ 1 → ChosenBy (votes_told view) (services_below setting.services) 1 (first_entry setting)
-    → ChosenBy (votes_told view) (services_below setting.services) 2 (second_entry setting set)
-    → IsLinked (votes_told view) (all_services setting.services) (origin_of setting) (first_entry setting ∷ second_entry setting set ∷ [])
-linked_two setting set view one c d = record { chosen = chosen; links = links }
+linked_two : (setting : Setting) (set : IsSetting setting) (votes : ℕ → List Record) → setting.services ≡ 1 → ChosenBy votes (voters_behind (origin_of setting) []) 1 (first_entry setting)
+    → ChosenBy votes (voters_behind (origin_of setting) (first_entry setting ∷ [])) 2 (second_entry setting set)
+    → IsLinked votes (origin_of setting) (first_entry setting ∷ second_entry setting set ∷ [])
+linked_two setting set votes one c d = record { chosen = chosen; links = links }
   where
-    both : List Entry
-    both = first_entry setting ∷ second_entry setting set ∷ []
-
-    chosen : (i : ℕ) (e : Entry) → slice_get (first_entry setting ∷ second_entry setting set ∷ []) i ≡ Some e → ChosenBy (votes_told view) (services_below setting.services) (i + 1) e
-    chosen zero e at = subst (λ (x : Entry). ChosenBy (votes_told view) (services_below setting.services) 1 x) (some_same (first_entry setting) e at) c
-    chosen (suc zero) e at = subst (λ (x : Entry). ChosenBy (votes_told view) (services_below setting.services) 2 x) (some_same (second_entry setting set) e at) d
+    chosen : (i : ℕ) (e : Entry) → slice_get (first_entry setting ∷ second_entry setting set ∷ []) i ≡ Some e
+        → ChosenBy votes (voters_behind (origin_of setting) (take i (first_entry setting ∷ second_entry setting set ∷ []))) (i + 1) e
+    chosen zero e at = subst (λ (x : Entry). ChosenBy votes (voters_behind (origin_of setting) []) 1 x) (some_same (first_entry setting) e at) c
+    chosen (suc zero) e at = subst (λ (x : Entry). ChosenBy votes (voters_behind (origin_of setting) (first_entry setting ∷ [])) 2 x) (some_same (second_entry setting set) e at) d
     chosen (suc (suc i)) e at = absurd (let q : None ≡ Some e = at in cc)
 
-    links : (i : ℕ) (e : Entry) → slice_get (first_entry setting ∷ second_entry setting set ∷ []) i ≡ Some e
-        → LinksOn (last_name (name_of setting.genesis) (take i (first_entry setting ∷ second_entry setting set ∷ []))) (generation_in 1 (take i (first_entry setting ∷ second_entry setting set ∷ []))) setting.services e
-    links zero e at = subst (λ (x : Entry). LinksOn (name_of setting.genesis) 1 setting.services x) (some_same (first_entry setting) e at) (first_links setting)
-    links (suc zero) e at = subst (λ (x : Entry). LinksOn (name_of (first_entry setting)) 1 setting.services x) (some_same (second_entry setting set) e at) (second_links setting set one)
+    links : (i : ℕ) (e : Entry) → slice_get (first_entry setting ∷ second_entry setting set ∷ []) i ≡ Some e → LinksBehind (origin_of setting) (take i (first_entry setting ∷ second_entry setting set ∷ [])) e
+    links zero e at = subst (λ (x : Entry). LinksBehind (origin_of setting) [] x) (some_same (first_entry setting) e at) (first_links setting)
+    links (suc zero) e at = subst (λ (x : Entry). LinksBehind (origin_of setting) (first_entry setting ∷ []) x) (some_same (second_entry setting set) e at) (second_links setting set one)
     links (suc (suc i)) e at = absurd (let q : None ≡ Some e = at in cc)
+
+linked_again : Read → (setting : Setting) → IsSetting setting → setting.services ≡ 1 → IsLinked (votes_told (promised_again setting)) (origin_of setting) (first_entry setting ∷ [])
+linked_again r setting set one =
+    linked_one setting (votes_told (promised_again setting))
+    (chooses (promised_again setting) (voters_behind (origin_of setting) []) 1 1 (ballot_of_round 1) (first_entry setting) (first_voters setting set one)
+    (taken_first (first_entry setting) (promise 2 ∷ []) (votes_told (promised_again setting) 0) (votes_again r setting)))
 
 supports_second : Read → (setting : Setting) (set : IsSetting setting) → setting.services ≡ 1
     → SupportsOffer setting (log_in (promised_again setting)) 0 (offers_told (promised_again setting) 0) 2 (ballot_of_round 2) (second_entry setting set)
@@ -360,15 +374,15 @@ supports_second r setting set one = record {
       | inl same ↦ (let round : 1 ≡ b.round = ap (λ (x : Record). (ballot_of x).round) same in omega (arith, round))
       | inr none ↦ absurd (in_none (Accept k b e) none)
     ];
-    justified = justified setting (promised_again setting) 2 (ballot_of_round 2) (second_entry setting set) one refl (shows_second (first_entry setting) (votes_told (promised_again setting) 0) (votes_again r setting));
-    valid = record {
+    justified = record {
       members = first_entry setting ∷ [];
-      linked = linked_one setting (promised_again setting)
-          (chooses setting (promised_again setting) 1 1 (ballot_of_round 1) (first_entry setting) one (taken_first (first_entry setting) (promise 2 ∷ []) (votes_told (promised_again setting) 0) (votes_again r setting)));
+      linked = linked_again r setting set one;
       at = refl;
-      links = second_links setting set one;
-      plan = second_plan setting set;
-      plan_is = refl;
+      justified = justified (promised_again setting) (voters_behind (origin_of setting) []) 2 (ballot_of_round 2) (second_entry setting set) (first_voters setting set one) refl
+          (shows_second (first_entry setting) (votes_told (promised_again setting) 0) (votes_again r setting));
+    };
+    valid = record {
+      next = record { members = first_entry setting ∷ []; linked = linked_again r setting set one; at = refl; links = second_links setting set one };
       placed = (second_whole r setting set one).placed;
     };
   };
@@ -392,11 +406,20 @@ no_offer : (e f : Entry) (i : ℕ) → slice_get (vote_for 1 e ∷ []) i ≡ Som
 no_offer e f zero at = (let p : 1 ≡ 2 = ap position_of (some_same (vote_for 1 e) (vote_for 2 f) at) in omega (arith, p))
 no_offer e f (suc i) at = nothing_at i (vote_for 2 f) at
 
-second_vote : Read → (setting : Setting) (set : IsSetting setting) → setting.services ≡ 1
-    → ChosenBy (votes_told (turned setting set)) (services_below setting.services) 2 (second_entry setting set)
-second_vote r setting set one =
-    chooses setting (turned setting set) 3 2 (ballot_of_round 2) (second_entry setting set) one
-    (taken_second (first_entry setting) (second_entry setting set) (votes_told (turned setting set) 0) (votes_turned r setting set))
+-- the votes of both bids
+abbrev HasBoth : (setting : Setting) → IsSetting setting → View → Type 0
+HasBoth setting set view = votes_told view 0 ≡ promise 1 ∷ vote_for 1 (first_entry setting) ∷ promise 2 ∷ vote_for 2 (second_entry setting set) ∷ []
+
+first_vote : (setting : Setting) (set : IsSetting setting) (view : View) → setting.services ≡ 1 → HasBoth setting set view → ChosenBy (votes_told view) (voters_behind (origin_of setting) []) 1 (first_entry setting)
+first_vote setting set view one votes =
+    chooses view (voters_behind (origin_of setting) []) 1 1 (ballot_of_round 1) (first_entry setting) (first_voters setting set one)
+    (taken_first (first_entry setting) (promise 2 ∷ vote_for 2 (second_entry setting set) ∷ []) (votes_told view 0) votes)
+
+second_vote : (setting : Setting) (set : IsSetting setting) (view : View) → setting.services ≡ 1 → HasBoth setting set view
+    → ChosenBy (votes_told view) (voters_behind (origin_of setting) (first_entry setting ∷ [])) 2 (second_entry setting set)
+second_vote setting set view one votes =
+    chooses view (voters_behind (origin_of setting) []) 3 2 (ballot_of_round 2) (second_entry setting set) (first_voters setting set one)
+    (taken_second (first_entry setting) (second_entry setting set) (votes_told view 0) votes)
 
 second_bid : Read → (setting : Setting) (set : IsSetting setting) → setting.services ≡ 1
     → IsBid setting (again setting) 2 (ballot_of_round 2) (second_entry setting set) (prepare 2) (accept 2 (second_entry setting set))
@@ -416,17 +439,99 @@ second_bid r setting set one = record {
   takes = event_may_follow (offered_again setting set) setting 0 (Rec (record { 0 = 0 }) (accept 2 (second_entry setting set))) refl set (some_service setting set) wide
       (supports_accept setting (log_in (offered_again setting set)) (offers_told (offered_again setting set)) 2 (ballot_of_round 2) (second_entry setting set) (accept 2 (second_entry setting set))
       (reads_accept r 2 (second_entry setting set) (omega arith) (omega arith) (second_fits setting set)) (1, refl));
-  chosen = record { behind = omega arith; chosen = second_vote r setting set one };
+  chosen = record {
+    members = first_entry setting ∷ [];
+    linked = linked_one setting (votes_told (turned setting set)) (first_vote setting set (turned setting set) one (votes_turned r setting set));
+    at = refl;
+    chosen = second_vote setting set (turned setting set) one (votes_turned r setting set);
+  };
 }
 
--- behind it what lies below generation 2 may be dropped
-may_drop : Read → (setting : Setting) (set : IsSetting setting) → setting.services ≡ 1 → MayDrop (turned setting set) 2
-may_drop r setting set one =
-    let first = chooses setting (turned setting set) 1 1 (ballot_of_round 1) (first_entry setting) one
-    (taken_first (first_entry setting) (promise 2 ∷ vote_for 2 (second_entry setting set) ∷ []) (votes_told (turned setting set) 0) (votes_turned r setting set)) in
+-- ---- the drop behind it
+
+abbrev dropped : (setting : Setting) → IsSetting setting → View
+dropped setting set = with_item (turned setting set) 0 (Log (Drop 2))
+
+abbrev both : (setting : Setting) → IsSetting setting → List Entry
+both setting set = first_entry setting ∷ second_entry setting set ∷ []
+
+both_linked : (setting : Setting) (set : IsSetting setting) (view : View) → setting.services ≡ 1 → HasBoth setting set view → IsLinked (votes_told view) (origin_of setting) (both setting set)
+both_linked setting set view one votes = linked_two setting set (votes_told view) one (first_vote setting set view one votes) (second_vote setting set view one votes)
+
+backs_drop : Read → (setting : Setting) (set : IsSetting setting) → setting.services ≡ 1 → SupportsEvent setting (log_in (turned setting set)) (offers_told (turned setting set)) (Drop 2)
+backs_drop r setting set one =
     let two : 2 ≤ 2 = omega arith in
-    event_may_follow (turned setting set) setting 0 (Drop 2) refl set (some_service setting set) wide
-    (inr (first_entry setting ∷ second_entry setting set ∷ [], linked_two setting set (turned setting set) one first (second_vote r setting set one), two))
+    inr (both setting set, both_linked setting set (turned setting set) one (votes_turned r setting set), two)
+
+-- what lies below generation 2 may be dropped
+may_drop : Read → (setting : Setting) (set : IsSetting setting) → setting.services ≡ 1 → MayDrop (turned setting set) 2
+may_drop r setting set one = event_may_follow (turned setting set) setting 0 (Drop 2) refl set (some_service setting set) wide (backs_drop r setting set one)
+
+tells_turned : Read → (setting : Setting) (set : IsSetting setting) → setting.services ≡ 1 → TellsSetting (turned setting set) setting
+tells_turned r setting set one =
+    tells_event setting (offered_again setting set) (Rec (record { 0 = 0 }) (accept 2 (second_entry setting set))) set wide (tells_offered_again r setting set one)
+    (supports_accept setting (log_in (offered_again setting set)) (offers_told (offered_again setting set)) 2 (ballot_of_round 2) (second_entry setting set) (accept 2 (second_entry setting set))
+    (reads_accept r 2 (second_entry setting set) (omega arith) (omega arith) (second_fits setting set)) (1, refl))
+
+tells_dropped : Read → (setting : Setting) (set : IsSetting setting) → setting.services ≡ 1 → TellsSetting (dropped setting set) setting
+tells_dropped r setting set one = tells_event setting (turned setting set) (Drop 2) set wide (tells_turned r setting set one) (backs_drop r setting set one)
+
+-- no vote is behind position 2
+votes_end : (e f : Entry) (i : ℕ) (q : Record) → slice_get (promise 1 ∷ vote_for 1 e ∷ promise 2 ∷ vote_for 2 f ∷ []) i ≡ Some q → position_of q ≤ 2
+votes_end e f zero q at = omega (arith, first_two e (promise 2 ∷ vote_for 2 f ∷ []) 0 q (omega arith) at)
+votes_end e f (suc zero) q at = omega (arith, first_two e (promise 2 ∷ vote_for 2 f ∷ []) 1 q (omega arith) at)
+votes_end e f (suc (suc zero)) q at = (let p : 2 ≡ position_of q = ap position_of (some_same (promise 2) q at) in omega (arith, p))
+votes_end e f (suc (suc (suc zero))) q at = (let p : 2 ≡ position_of q = ap position_of (some_same (vote_for 2 f) q at) in omega (arith, p))
+votes_end e f (suc (suc (suc (suc i)))) q at = absurd (nothing_at i q at)
+
+third_at : (members : List Entry) → 2 < length members → (e : Entry) × (slice_get members 2 ≡ Some e)
+third_at [] more = absurd (omega (arith, more))
+third_at (a ∷ []) more = absurd (omega (arith, more))
+third_at (a ∷ b ∷ []) more = absurd (omega (arith, more))
+third_at (a ∷ b ∷ c ∷ members) more = (c, refl)
+
+-- each member of a linked list is chosen
+abbrev pub MembersChosen : Type 0
+MembersChosen = (votes : ℕ → List Record) (origin : Origin) (c : List Entry) (i : ℕ) (e : Entry) → IsLinked votes origin c → slice_get c i ≡ Some e → IsChosen votes origin (i + 1) e
+
+at_most_two : MembersChosen → Read → (setting : Setting) (set : IsSetting setting) → setting.services ≡ 1 → (other : List Entry) → IsLinked (votes_told (dropped setting set)) (origin_of setting) other → length other ≤ 2
+at_most_two chosen r setting set one other linked =
+    elim (cases_lt 2 (length other)) [
+      | inl more ↦
+          let votes = votes_told (dropped setting set) in
+          let e = third_at other more in
+          let c = chosen votes (origin_of setting) other 2 e.0 linked e.1 in
+          let t = c.chosen.taken 0 (in_majority setting set one votes c.members c.linked c.chosen.part c.chosen.majority) in
+          let at = ap (λ (l : List Record). slice_get l t.0) (sym (votes_turned r setting set)) ∙ t.1.stands in
+          absurd (omega (arith, votes_end (first_entry setting) (second_entry setting set) t.0 (Accept 3 c.chosen.ballot e.0) at))
+      | inr few ↦ few
+    ]
+
+chain_dropped : MembersChosen → Read → (setting : Setting) (set : IsSetting setting) → setting.services ≡ 1 → IsChain (votes_told (dropped setting set)) (origin_of setting) (both setting set)
+chain_dropped chosen r setting set one = record {
+  linked = both_linked setting set (dropped setting set) one (votes_turned r setting set);
+  longest = λ other linked. at_most_two chosen r setting set one other linked;
+}
+
+-- the master of generation 2 is live, and no put of generation 1 stands
+collected : MembersChosen → Read → (setting : Setting) (set : IsSetting setting) → setting.services ≡ 1 → IsCollected setting (dropped setting set) (second_entry setting set)
+collected chosen r setting set one = record {
+  chain = both setting set;
+  is = chain_dropped chosen r setting set one;
+  live = record { is = refl; current = refl };
+  name = root;
+  was_put = (object_text directory, (0, first, refl));
+  gone = λ s name h.
+      let below = (log_supported (dropped setting set) setting (tells_dropped r setting set one) s (Put 1 name h.put.0) h.put.1).0 in
+      let only_one : 0 ≡ s = omega (arith, below, one) in
+      omega (arith, h.kept 2 (subst (λ k. Contains (log_in (dropped setting set) k) (Drop 2)) only_one (8, last, refl)));
+}
+  where
+    first : 0 < 9
+    first = omega arith
+
+    last : 8 < 9
+    last = omega arith
 
 pub first_bids : Read → (setting : Setting) → IsSetting setting → setting.services ≡ 1
     → (view : View) × (directory version : List ℕ) × (b : Ballot) × (e : Entry) × (p a : List ℕ) × IsBid setting (with_put (with_put view 1 directory) 1 version) 1 b e p a
@@ -444,7 +549,16 @@ first_bids r setting set one = (
   no_drop setting one,
 )
 
-pub second_bids : Read → (setting : Setting) → IsSetting setting → setting.services ≡ 1
+pub second_bids : MembersChosen → Read → (setting : Setting) → IsSetting setting → setting.services ≡ 1
     → (view : View) × (b : Ballot) × (e : Entry) × (p a : List ℕ) × IsBid setting view 2 b e p a × MayDrop (with_vote (with_offer (with_vote view p) 2 b e) a) 2
-second_bids r setting set one =
-    (again setting, ballot_of_round 2, second_entry setting set, prepare 2, accept 2 (second_entry setting set), second_bid r setting set one, may_drop r setting set one)
+    × IsCollected setting (with_drop (with_vote (with_offer (with_vote view p) 2 b e) a) 2) e
+second_bids chosen r setting set one = (
+  again setting,
+  ballot_of_round 2,
+  second_entry setting set,
+  prepare 2,
+  accept 2 (second_entry setting set),
+  second_bid r setting set one,
+  may_drop r setting set one,
+  collected chosen r setting set one,
+)

@@ -1,5 +1,5 @@
 -- Which items may follow what is known.
-use Rattle.std.proofs.Common.{◌≡◌, ◌≢◌, ℕ, ◌+◌, ◌<◌, List, [], ◌∷◌, ◌++◌, Some, inl, inr, ⊎_elim, refl, sym, ap, ◌∙◌, subst, slice_get, length, replicate, arith}
+use Rattle.std.proofs.Common.{◌≡◌, ◌≢◌, ℕ, ◌<◌, List, [], ◌∷◌, ◌++◌, Some, inl, inr, ⊎_elim, refl, sym, ap, ◌∙◌, subst, slice_get, length, replicate, arith}
 use Rattle.std.proofs.lemmas.List.{append-nil, length-replicate}
 use Rattle.std.proofs.lemmas.List.Elements.{filter_map-append}
 use Rattle.std.specs.List.{filter_map}
@@ -22,12 +22,11 @@ use Rattle.ms_record.specs.declared.log.LogEvent.TheVariants.{Rec, Put, Drop}
 use Rattle.ms_record.specs.declared.record.Record.{Record}
 use Rattle.ms_record.specs.declared.record.Record.TheVariants.{Accept}
 use Rattle.ms_record.specs.declared.setting.Setting.{Setting}
-use Rattle.ms_record.specs.Growing.{votes_append, chosen_grows}
+use Rattle.ms_record.specs.Growing.{votes_append, linked_grows}
 use Rattle.ms_record.specs.Items.{event_in, offer_in}
 use Rattle.ms_record.specs.Logs.{votes_in}
 use Rattle.ms_record.specs.Offers.{GrowsTo}
-use Rattle.ms_record.specs.Settings.{IsSetting}
-use Rattle.ms_record.specs.Votes.{services_below}
+use Rattle.ms_record.specs.Settings.{IsSetting, origin_of}
 
 -- ---- one item more, which is supported
 
@@ -109,14 +108,8 @@ votes_same view service floor lt s =
 
 backed_before : (setting : Setting) (view : View) (service floor : ℕ) → service < length view → IsBacked setting (log_in (with_item view service (Log (Drop floor)))) floor → IsBacked setting (log_in view) floor
 backed_before setting view service floor lt (inl low) = inl low
-backed_before setting view service floor lt (inr h) = inr (
-  h.0,
-  record {
-    chosen = λ i e at. chosen_grows (votes_told (with_item view service (Log (Drop floor)))) (votes_told view) (services_below setting.services) (i + 1) e (votes_same view service floor lt) (h.1.chosen i e at);
-    links = h.1.links;
-  },
-  h.2,
-)
+backed_before setting view service floor lt (inr h) =
+    inr (h.0, linked_grows (votes_told (with_item view service (Log (Drop floor)))) (votes_told view) (origin_of setting) h.0 (votes_same view service floor lt) h.1, h.2)
 
 offers_before : (view : View) (service client : ℕ) (event : LogEvent) → service < 16 → offers_told (with_item view service (Log event)) client ≡ offers_told view client
 offers_before view service client event low =

@@ -1,22 +1,21 @@
--- The laws of records, chains and growing lists that this crate stands on.
+-- The laws of records and chains that this crate stands on.
 use Rattle.std.specs.Prelude.{◌≡◌, ℕ, ◌+◌, ◌≤◌, ◌++◌, ◌∷◌, [], List, Some, length, slice_get}
-use Rattle.ms_record.specs.declared.ballot.Ballot.{Ballot}
 use Rattle.ms_record.specs.declared.entry.Entry.{Entry}
 use Rattle.ms_record.specs.declared.record.Record.{Record}
-use Rattle.ms_record.specs.Chains.{Origin, LinksOn, IsLinked, IsChain, IsChosen, Agrees, AllNext, Begins, all_services, last_name, generation_in}
-use Rattle.ms_record.specs.Offers.{GrowsTo, IsSound, JustifiedBy}
+use Rattle.ms_record.specs.Chains.{Origin, IsLinked, IsChain, IsChosen, Agrees, AllNext, Begins, LinksBehind, voters_behind}
+use Rattle.ms_record.specs.Offers.{IsSound}
 use Rattle.ms_record.specs.Reading.{record_at}
 use Rattle.ms_record.specs.Records.{IsRecord, record_text}
-use Rattle.ms_record.specs.Votes.{ChosenBy, services_below}
+use Rattle.ms_record.specs.Votes.{ChosenBy}
 
 pub record Laws : Type 0 where
-  pub one : (votes offers : ℕ → List Record) (voters : List ℕ) (position : ℕ) (e f : Entry) → IsSound votes offers voters position → ChosenBy votes voters position e → ChosenBy votes voters position f → e ≡ f
-  pub chosen : (old new : ℕ → List Record) (voters : List ℕ) (position : ℕ) (entry : Entry) → GrowsTo old new → ChosenBy old voters position entry → ChosenBy new voters position entry
-  pub justified : (old new : ℕ → List Record) (voters : List ℕ) (position : ℕ) (ballot : Ballot) (entry : Entry) → GrowsTo old new → JustifiedBy old voters position ballot entry → JustifiedBy new voters position ballot entry
-  pub begins : (votes : ℕ → List Record) (origin : Origin) (c d : List Entry) → Agrees votes origin.services → IsLinked votes (all_services origin.services) origin c → IsLinked votes (all_services origin.services) origin d
-      → length c ≤ length d → Begins c d
-  pub stands : (votes : ℕ → List Record) (origin : Origin) (chain : List Entry) (i : ℕ) (e : Entry) → Agrees votes origin.services → AllNext votes origin → IsChain votes (all_services origin.services) origin chain
-      → IsChosen votes origin.services (i + 1) e → slice_get chain i ≡ Some e
+  pub agrees : (votes offers : ℕ → List Record) (origin : Origin) → IsSound votes offers origin → Agrees votes origin
+  pub begins : (votes : ℕ → List Record) (origin : Origin) (c d : List Entry) → Agrees votes origin → IsLinked votes origin c → IsLinked votes origin d → length c ≤ length d → Begins c d
+  pub one_list : (votes : ℕ → List Record) (origin : Origin) (c d : List Entry) → Agrees votes origin → IsLinked votes origin c → IsLinked votes origin d → length c ≡ length d → c ≡ d
+  pub stands : (votes : ℕ → List Record) (origin : Origin) (chain : List Entry) (i : ℕ) (e : Entry) → Agrees votes origin → AllNext votes origin → IsChain votes origin chain
+      → IsChosen votes origin (i + 1) e → slice_get chain i ≡ Some e
+  pub none : (votes : ℕ → List Record) (origin : Origin) → IsLinked votes origin []
+  pub chosen : (votes : ℕ → List Record) (origin : Origin) (c : List Entry) (i : ℕ) (e : Entry) → IsLinked votes origin c → slice_get c i ≡ Some e → IsChosen votes origin (i + 1) e
+  pub goes_on : (votes : ℕ → List Record) (origin : Origin) (c : List Entry) (e : Entry) → IsLinked votes origin c → ChosenBy votes (voters_behind origin c) (length c + 1) e
+      → LinksBehind origin c e → IsLinked votes origin (c ++ e ∷ [])
   pub read : (r : Record) → IsRecord r → record_at (record_text r) ≡ Some r
-  pub goes_on : (votes : ℕ → List Record) (origin : Origin) (c : List Entry) (e : Entry) → IsLinked votes (all_services origin.services) origin c → ChosenBy votes (services_below origin.services) (length c + 1) e
-      → LinksOn (last_name origin.name c) (generation_in origin.generation c) origin.services e → IsLinked votes (all_services origin.services) origin (c ++ e ∷ [])

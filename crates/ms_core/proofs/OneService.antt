@@ -1,5 +1,5 @@
 -- Views that tell a setting of one service, which has a version of nothing: what supports their items.
-use Rattle.std.proofs.Common.{◌≡◌, ℕ, zero, suc, ◌+◌, ◌*◌, ◌<◌, ◌≤◌, ◌==◌, Bool, true, false, cond, List, [], ◌∷◌, Option, Some, None, inl, inr, refl, sym, ap, ◌∙◌, subst, slice_get, length, map, All, Contains, arith}
+use Rattle.std.proofs.Common.{◌≡◌, ℕ, zero, suc, ◌+◌, ◌<◌, ◌≤◌, ◌==◌, Bool, true, false, cond, List, [], ◌∷◌, Option, Some, None, inl, inr, refl, sym, ap, ◌∙◌, subst, slice_get, length, map, All, Contains, arith}
 use Rattle.std.specs.List.{range_with_len, count_by}
 use Rattle.std.specs.Prelude.{slice_index_or, IfSome}
 use Rattle.std.proofs.lemmas.Bool.{eqb-true}
@@ -11,7 +11,8 @@ use Rattle.ms_core.proofs.Following.{tells_item}
 use Rattle.ms_core.proofs.Places.{in_here, some_same}
 use Rattle.ms_core.proofs.Telling.{tells, vote_offered, offered}
 use Rattle.ms_core.specs.FirstBids.{with_offer}
-use Rattle.ms_core.specs.Placing.{PlacedBy, HasObject, wanted_in}
+use Rattle.ms_core.proofs.Voters.{count_some, first_known, voters_known}
+use Rattle.ms_core.specs.Placing.{PlacedBy, HasObject, HoldsVersion, wanted_in}
 use Rattle.ms_core.specs.declared.want.Want.{Want}
 use Rattle.ms_core.specs.Views.{View, configuration, log_in, offers_told, votes_told, WholeBy, SupportsOffer, SupportsEvent, TellsSetting, IsClosed}
 use Rattle.ms_ken.specs.Lists.{list_at, with_item}
@@ -29,11 +30,12 @@ use Rattle.ms_record.specs.declared.record.Record.TheVariants.{Prepare, Accept}
 use Rattle.ms_record.specs.declared.setting.Setting.{Setting}
 use Rattle.ms_record.specs.Entries.{IsEntry, name_of}
 use Rattle.ms_record.specs.Offers.{IsOffered}
-use Rattle.ms_record.specs.Plans.{PlanView, IsPlan}
+use Rattle.ms_record.specs.Plans.{PlanView, IsPlan, no_plan}
 use Rattle.ms_record.specs.Reading.{record_at}
 use Rattle.ms_record.specs.Records.{IsRecord, record_text}
-use Rattle.ms_record.specs.Settings.{IsSetting}
-use Rattle.ms_record.specs.Votes.{IsMajority, services_below}
+use Rattle.ms_record.specs.Chains.{IsLinked, plan_after, voters_behind, voters_of}
+use Rattle.ms_record.specs.Settings.{IsSetting, genesis_plan, origin_of}
+use Rattle.ms_record.specs.Votes.{IsMajority}
 
 -- what the readers of records and objects give
 pub record Read : Type 0 where
@@ -50,20 +52,22 @@ pub only_zero : (s : ℕ) → only s ≡ true → s ≡ 0
 unfolding only
 only_zero s is = eqb-true s 0 is
 
-pub only_majority : (n : ℕ) → n ≡ 1 → IsMajority only (services_below n)
+pub only_majority : (voters : List ℕ) → voters ≡ 0 ∷ [] → IsMajority only voters
 unfolding only
-only_majority n one = subst (λ m. IsMajority (λ s. s == 0) (services_below m)) (sym one) (record {
-  within = λ s is. subst (λ k. Contains (services_below 1) k) (sym (eqb-true s 0 is)) (in_here 0 []);
+only_majority voters one = subst (λ l. IsMajority (λ s. s == 0) l) (sym one) (record {
+  within = λ s is. subst (λ k. Contains (0 ∷ []) k) (sym (eqb-true s 0 is)) (in_here 0 []);
   more_than_half = omega arith;
 })
 
 -- it is in each majority
-pub in_majority : (n : ℕ) (part : ℕ → Bool) → n ≡ 1 → IsMajority part (services_below n) → part 0 ≡ true
-in_majority n part one m = by (part 0) refl (subst (λ k. length (services_below k) < 2 * count_by part (services_below k)) one m.more_than_half)
-  where
-    by : (b : Bool) → part 0 ≡ b → 1 < 2 * (0 + cond (part 0) 1 0) → part 0 ≡ true
-    by true e h = e
-    by false e h = absurd (let none : 1 < 2 * (0 + 0) = subst (λ (b : Bool). 1 < 2 * (0 + cond b 1 0)) e h in omega (arith, none))
+pub in_majority : (setting : Setting) → IsSetting setting → setting.services ≡ 1 → (votes : ℕ → List Record) (members : List Entry) → IsLinked votes (origin_of setting) members
+    → (part : ℕ → Bool) → IsMajority part (voters_behind (origin_of setting) members) → part 0 ≡ true
+in_majority setting set one votes members linked part m =
+    let voters = voters_behind (origin_of setting) members in
+    let some = count_some part voters (omega (arith, m.more_than_half)) in
+    let below = voters_known votes (origin_of setting) (first_known setting set) members linked some.0 (m.within some.0 some.1) in
+    let first : some.0 ≡ 0 = omega (arith, below, one) in
+    subst (λ s. part s ≡ true) first some.1
 
 pub some_service : (setting : Setting) → IsSetting setting → 0 < setting.services
 some_service setting set = omega (arith, set.some_services)
@@ -101,9 +105,9 @@ row_marked (row ∷ next ∷ rows) part e le = absurd (let q = ap (λ (l : List 
 
 -- ---- a version of nothing is placed
 
-pub placed : Read → (has : ℕ → Name → Type 0) (plan : PlanView) → plan.replicas ≤ count_by (λ (row : PlanRow). only row.service.0) plan.rows → has 0 root → has 0 top → PlacedBy has plan top
-placed r has plan enough directory_put version_put = record {
-  store = two_texts;
+-- the two texts are a version of nothing
+pub holds_two : Read → (format : ℕ) → format ≡ 1 → HoldsVersion format two_texts top
+holds_two r format one = record {
   top = record { text = object_text version; is = has_version; object = version; spells = version_spelled; kind = tt };
   below = λ name text o is spells.
       elim (texts_are name.0 text is) [
@@ -113,6 +117,21 @@ placed r has plan enough directory_put version_put = record {
             (r.one_value text version o (subst (λ t. Spells t version) v.1 version_spelled) spells) root_only
       ];
   named = λ name text is. elim (texts_are name.0 text is) [ inl d ↦ d.0 ∙ ap sha256 d.1 | inr v ↦ v.0 ∙ ap sha256 v.1 ];
+  formats = λ name text is.
+      elim (texts_are name.0 text is) [
+        | inl d ↦ record { object = directory; spells = subst (λ t. Spells t directory) d.1 directory_spelled; format_is = sym one }
+        | inr v ↦ record { object = version; spells = subst (λ t. Spells t version) v.1 version_spelled; format_is = sym one }
+      ];
+}
+  where
+    root_only : All (λ (want : Want). HasObject two_texts want.name want.wanted) (wanted_in version)
+    root_only zero w lt = record { text = object_text directory; is = has_directory; object = directory; spells = directory_spelled; kind = tt }
+    root_only (suc k) w lt = absurd (omega (arith, lt))
+
+pub placed : Read → (has : ℕ → Name → Type 0) (plan : PlanView) → plan.replicas ≤ count_by (λ (row : PlanRow). only row.service.0) plan.rows → plan.format ≡ 1 → has 0 root → has 0 top → PlacedBy has plan top
+placed r has plan enough format directory_put version_put = record {
+  store = two_texts;
+  holds = holds_two r plan.format format;
   put = λ name text is. record {
     part = only;
     have = λ s at. subst (λ k. has k name) (sym (only_zero s at))
@@ -120,16 +139,12 @@ placed r has plan enough directory_put version_put = record {
     enough = enough;
   };
 }
-  where
-    root_only : All (λ (want : Want). HasObject two_texts want.name want.wanted) (wanted_in version)
-    root_only zero w lt = record { text = object_text directory; is = has_directory; object = directory; spells = directory_spelled; kind = tt }
-    root_only (suc k) w lt = absurd (omega (arith, lt))
 
 -- and its tree has no files
-pub whole : Read → (has : ℕ → Name → Type 0) (plan : PlanView) → plan.replicas ≤ count_by (λ (row : PlanRow). only row.service.0) plan.rows → has 0 root → has 0 top → WholeBy has plan top
+pub whole : Read → (has : ℕ → Name → Type 0) (plan : PlanView) → plan.replicas ≤ count_by (λ (row : PlanRow). only row.service.0) plan.rows → plan.format ≡ 1 → has 0 root → has 0 top → WholeBy has plan top
 unfolding placed
-whole r has plan enough directory_put version_put = record {
-  placed = placed r has plan enough directory_put version_put;
+whole r has plan enough format directory_put version_put = record {
+  placed = placed r has plan enough format directory_put version_put;
   files = [];
   are = record {
     text = object_text version;
@@ -179,8 +194,9 @@ tells_offer setting view k b e set wide h supports = tells_item setting view 16 
 pub not_hasty : (setting : Setting) (view : View) (k : ℕ) (b : Ballot) (e : Entry) → setting.services ≡ 1 → list_at view configuration ≡ Told setting ∷ [] → IsOffered (offers_told view) k b e
     → ((i : ℕ) → slice_get (votes_told view 0) i ≡ Some (Prepare k b) → ⊥) → IsClosed view → ⊥
 not_hasty setting view k b e one told there unpromised closed =
-    let j = (offered view setting (tells view setting closed told) k b e there).1.supports.declared.justified in
-    let s = j.shown 0 (in_majority setting.services j.part one j.majority) in
+    let h = tells view setting closed told in
+    let j = (offered view setting h k b e there).1.supports.declared.justified in
+    let s = j.justified.shown 0 (in_majority setting h.ranges one (votes_told view) j.members j.linked j.justified.part j.justified.majority) in
     unpromised s.place s.first.promised.stands
 
 -- without an offer a vote has no support
@@ -234,7 +250,8 @@ second_fits setting set =
       plan = record {
         some_generation = omega arith;
         last_generation = omega arith;
-        format = p.format;
+        some_format = p.some_format;
+        last_format = p.last_format;
         some_unit = p.some_unit;
         unit = p.unit;
         some_rows = p.some_rows;
@@ -248,6 +265,13 @@ second_fits setting set =
 
 pub rows_are : (setting : Setting) (set : IsSetting setting) → setting.services ≡ 1 → map (λ (row : PlanRow). row.service.0) set.plan.rows ≡ 0 ∷ []
 rows_are setting set one = set.first.rows ∙ ap (λ n. range_with_len 0 n) one
+
+-- the first plan
+pub genesis_is : (setting : Setting) (set : IsSetting setting) → genesis_plan setting ≡ set.plan
+genesis_is setting set = ap (λ (o : Option PlanView). plan_after no_plan o) set.plan_is
+
+pub first_voters : (setting : Setting) (set : IsSetting setting) → setting.services ≡ 1 → voters_behind (origin_of setting) [] ≡ 0 ∷ []
+first_voters setting set one = ap voters_of (genesis_is setting set) ∙ rows_are setting set one
 
 pub enough : (setting : Setting) (set : IsSetting setting) → setting.services ≡ 1 → set.plan.replicas ≤ count_by (λ (row : PlanRow). only row.service.0) set.plan.rows
 enough setting set one = rows_alone set.plan.rows set.plan.replicas (plan_fits setting set).few_replicas (rows_are setting set one)

@@ -22,7 +22,7 @@ use Rattle.ms_record.specs.Items.{event_in, offer_in, offers_of_items}
 use Rattle.ms_record.specs.Logs.{texts_in}
 use Rattle.ms_record.specs.Offers.{IsOffered, IsSound}
 use Rattle.ms_record.specs.Reading.{record_at, votes_of, with_record}
-use Rattle.ms_record.specs.Votes.{services_below}
+use Rattle.ms_record.specs.Settings.{origin_of}
 
 -- ---- places of filtered lists
 
@@ -206,9 +206,9 @@ one_offer setting view h k b e f x y =
       ]
     ]
 
-pub told_sound : (setting : Setting) (view : View) → TellsSetting view setting → (k : ℕ) → IsSound (votes_told view) (offers_told view) (services_below setting.services) k
-told_sound setting view h k = record {
-  one_offer = λ b e f x y. one_offer setting view h k b e f x y;
-  taken_offered = λ s place b e t. vote_offered view setting h s place k b e t.stands;
-  justified = λ b e o. (offered view setting h k b e o).1.supports.declared.justified;
+pub told_sound : (setting : Setting) (view : View) → TellsSetting view setting → IsSound (votes_told view) (offers_told view) (origin_of setting)
+told_sound setting view h = record {
+  one_offer = λ k b e f x y. one_offer setting view h k b e f x y;
+  taken_offered = λ s place k b e t. vote_offered view setting h s place k b e t.stands;
+  justified = λ k b e o. (offered view setting h k b e o).1.supports.declared.justified;
 }

@@ -1,13 +1,13 @@
--- There is a chain in every view that tells a setting: what is chosen is found among the votes, from a bound of their positions down.
-use Rattle.std.proofs.Common.{◌≡◌, ℕ, zero, suc, ◌+◌, ◌*◌, ◌<◌, ◌≤◌, Bool, true, false, List, [], ◌∷◌, ◌++◌, Option, Some, None, ◌⊎◌, inl, inr, refl, sym, ap, subst, slice_get, length, count_by, arith}
+-- There is a chain in every view that tells a setting: it goes on while an entry is chosen behind it, up to a bound of the positions of all votes.
+use Rattle.std.proofs.Common.{◌≡◌, ℕ, zero, suc, ◌+◌, ◌*◌, ◌<◌, ◌≤◌, Bool, true, false, List, [], ◌∷◌, ◌++◌, Option, Some, None, ◌⊎◌, inl, inr, refl, sym, ap, ◌∙◌, subst, slice_get, length, take, count_by, Contains, arith}
 use Rattle.std.proofs.lemmas.Bool.{cases_lt}
-use Rattle.std.proofs.lemmas.List.{length_push}
+use Rattle.std.proofs.lemmas.List.{length_push, take_at}
 use Rattle.std.proofs.lemmas.Option.{slice_get_within}
 use Rattle.ms_core.proofs.Laws.{Laws}
-use Rattle.ms_core.proofs.Voters.{below_voter, voter_below, count_le, count_some}
-use Rattle.ms_core.proofs.Places.{same_or_not, some_same}
+use Rattle.ms_core.proofs.Voters.{AreKnown, count_le, count_some, first_known, voters_known}
+use Rattle.ms_core.proofs.Places.{same_or_not, some_same, in_none, in_here, in_later, in_cases}
 use Rattle.ms_core.proofs.Telling.{vote_offered, one_offer}
-use Rattle.ms_core.proofs.Viewing.{view_linked}
+use Rattle.ms_core.proofs.Viewing.{view_agrees, view_links}
 use Rattle.ms_core.specs.Views.{View, votes_told, TellsSetting}
 use Rattle.ms_record.specs.declared.ballot.Ballot.{Ballot}
 use Rattle.ms_record.specs.declared.entry.Entry.{Entry}
@@ -15,9 +15,9 @@ use Rattle.ms_record.specs.declared.record.Record.{Record}
 use Rattle.ms_record.specs.declared.record.Record.TheVariants.{Prepare, Accept}
 use Rattle.ms_record.specs.declared.setting.Setting.{Setting}
 use Rattle.ms_record.specs.Ballots.{IsAtMost}
-use Rattle.ms_record.specs.Chains.{Origin, IsLinked, IsChain, IsChosen, all_services}
+use Rattle.ms_record.specs.Chains.{Origin, IsLinked, IsChain, LinksBehind, Agrees, voters_behind}
 use Rattle.ms_record.specs.Settings.{origin_of}
-use Rattle.ms_record.specs.Votes.{position_of, ballot_of, NoneAbove, IsTaken, ChosenBy, services_below}
+use Rattle.ms_record.specs.Votes.{position_of, ballot_of, NoneAbove, IsTaken, ChosenBy}
 
 -- ---- what can be decided
 
@@ -48,6 +48,29 @@ first_below P find (suc n) =
           | inl lower ↦ before i lower p
           | inr last ↦ here (let e : i ≡ n = omega (arith, less, last) in subst P e p)
         ])
+      ]
+    ]
+
+in_or_not : (xs : List ℕ) (s : ℕ) → Decided (Contains xs s)
+in_or_not [] s = inr (λ h. in_none s h)
+in_or_not (x ∷ xs) s =
+    elim (same_or_not x s) [
+      | inl same ↦ inl (subst (λ (y : ℕ). Contains (x ∷ xs) y) same (in_here x xs))
+      | inr other ↦ elim (in_or_not xs s) [
+        | inl later ↦ inl (in_later x xs s later)
+        | inr none ↦ inr (λ h. elim (in_cases x xs s h) [ inl here ↦ other here | inr later ↦ none later ])
+      ]
+    ]
+
+-- where each number of a list gives an answer or has nothing, there is an answer, or none of them has anything
+first_in : {A : Type 0} (P : ℕ → Type 0) → ((s : ℕ) → A ⊎ (P s → ⊥)) → (xs : List ℕ) → A ⊎ ((s : ℕ) → Contains xs s → P s → ⊥)
+first_in P find [] = inr (λ s h p. in_none s h)
+first_in P find (x ∷ xs) =
+    elim (find x) [
+      | inl found ↦ inl found
+      | inr here ↦ elim (first_in P find xs) [
+        | inl found ↦ inl found
+        | inr later ↦ inr (λ s h p. elim (in_cases x xs s h) [ inl same ↦ here (subst P (sym same) p) | inr more ↦ later s more p ])
       ]
     ]
 
@@ -162,30 +185,30 @@ positions_within votes (suc n) s less =
 abbrev HaveOne : (ℕ → List Record) → Type 0
 HaveOne votes = (s t i j k : ℕ) (b : Ballot) (e f : Entry) → slice_get (votes s) i ≡ Some (Accept k b e) → slice_get (votes t) j ≡ Some (Accept k b f) → e ≡ f
 
-module _ (votes : ℕ → List Record) (n : ℕ) where
+module _ (votes : ℕ → List Record) (voters : List ℕ) where
   abbrev Chosen : ℕ → Type 0
-  Chosen k = (e : Entry) × ChosenBy votes (services_below n) k e
+  Chosen k = (e : Entry) × ChosenBy votes voters k e
 
   -- a member of the majority, and where its vote stands
-  voter : (k : ℕ) (c : Chosen k) → (s : ℕ) × (s < n) × (place : ℕ) × (slice_get (votes s) place ≡ Some (Accept k c.1.ballot c.0))
+  voter : (k : ℕ) (c : Chosen k) → (s : ℕ) × Contains voters s × (place : ℕ) × (slice_get (votes s) place ≡ Some (Accept k c.1.ballot c.0))
   voter k c =
-      let m = count_some c.1.part (services_below n) (omega (arith, c.1.majority.more_than_half)) in
+      let m = count_some c.1.part voters (omega (arith, c.1.majority.more_than_half)) in
       let t = c.1.taken m.0 m.1 in
-      (m.0, voter_below n m.0 (c.1.majority.within m.0 m.1), t.0, t.1.stands)
+      (m.0, c.1.majority.within m.0 m.1, t.0, t.1.stands)
 
-  chosen_within : (k : ℕ) → Chosen k → k ≤ positions_below votes n
-  chosen_within k c =
+  chosen_within : (n : ℕ) → ((s : ℕ) → Contains voters s → s < n) → (k : ℕ) → Chosen k → k ≤ positions_below votes n
+  chosen_within n below k c =
       let v = voter k c in
-      omega (arith, position_within (votes v.0) v.2 (Accept k c.1.ballot c.0) v.3, positions_within votes n v.0 v.1)
+      omega (arith, position_within (votes v.0) v.2 (Accept k c.1.ballot c.0) v.3, positions_within votes n v.0 (below v.0 v.1))
 
   abbrev IsTaker : ℕ → Ballot → ℕ → Type 0
-  IsTaker k b s = (s < n) × Takes (votes s) k b
+  IsTaker k b s = Contains voters s × Takes (votes s) k b
 
   taker_or_not : (k : ℕ) (b : Ballot) (s : ℕ) → Decided (IsTaker k b s)
   taker_or_not k b s =
-      elim (cases_lt s n) [
-        | inl less ↦ elim (takes_or_not (votes s) k b) [ inl takes ↦ inl (less, takes) | inr none ↦ inr (λ h. none h.1) ]
-        | inr past ↦ inr (λ h. omega (arith, past, h.0))
+      elim (in_or_not voters s) [
+        | inl is ↦ elim (takes_or_not (votes s) k b) [ inl takes ↦ inl (is, takes) | inr none ↦ inr (λ h. none h.1) ]
+        | inr other ↦ inr (λ h. other h.0)
       ]
 
   takers : ℕ → Ballot → ℕ → Bool
@@ -200,15 +223,15 @@ module _ (votes : ℕ → List Record) (n : ℕ) where
   is_taker k b s h = holds_so (taker_or_not k b s) h
 
   -- more than half have taken the ballot: the entry of one of them is chosen
-  most_choose : HaveOne votes → (k : ℕ) (b : Ballot) → length (services_below n) < 2 * count_by (takers k b) (services_below n) → Chosen k
+  most_choose : HaveOne votes → (k : ℕ) (b : Ballot) → length voters < 2 * count_by (takers k b) voters → Chosen k
   most_choose one k b most =
-      let m = count_some (takers k b) (services_below n) (omega (arith, most)) in
+      let m = count_some (takers k b) voters (omega (arith, most)) in
       let first = (taker_is k b m.0 m.1).1 in (
         first.1,
         record {
           ballot = b;
           part = takers k b;
-          majority = record { within = λ s t. below_voter n s (taker_is k b s t).0; more_than_half = most };
+          majority = record { within = λ s t. (taker_is k b s t).0; more_than_half = most };
           taken = λ s t. let v = (taker_is k b s t).1 in
               (v.0, subst (λ (e : Entry). IsTaken (votes s) v.0 k b e) (one s m.0 v.0 first.0 k b v.1 first.1 v.2.stands first.2.stands) v.2);
         },
@@ -218,16 +241,16 @@ module _ (votes : ℕ → List Record) (n : ℕ) where
   abbrev ChosenUnder : ℕ → Ballot → Type 0
   ChosenUnder k b = (c : Chosen k) × (c.1.ballot ≡ b)
 
-  chosen_most_take : (k : ℕ) (b : Ballot) → ChosenUnder k b → length (services_below n) < 2 * count_by (takers k b) (services_below n)
+  chosen_most_take : (k : ℕ) (b : Ballot) → ChosenUnder k b → length voters < 2 * count_by (takers k b) voters
   chosen_most_take k b c =
       let d = c.0.1 in
-      let more = count_le d.part (takers k b) (services_below n)
-      (λ s t. is_taker k b s (voter_below n s (d.majority.within s t), let v = d.taken s t in (v.0, c.0.0, subst (λ (a : Ballot). IsTaken (votes s) v.0 k a c.0.0) c.1 v.1))) in
+      let more = count_le d.part (takers k b) voters
+      (λ s t. is_taker k b s (d.majority.within s t, let v = d.taken s t in (v.0, c.0.0, subst (λ (a : Ballot). IsTaken (votes s) v.0 k a c.0.0) c.1 v.1))) in
       omega (arith, more, d.majority.more_than_half)
 
   chosen_under : HaveOne votes → (k : ℕ) (b : Ballot) → Chosen k ⊎ (ChosenUnder k b → ⊥)
   chosen_under one k b =
-      elim (cases_lt (length (services_below n)) (2 * count_by (takers k b) (services_below n))) [
+      elim (cases_lt (length voters) (2 * count_by (takers k b) voters)) [
         | inl most ↦ inl (most_choose one k b most)
         | inr few ↦ inr (λ c. omega (arith, few, chosen_most_take k b c))
       ]
@@ -257,29 +280,9 @@ module _ (votes : ℕ → List Record) (n : ℕ) where
   -- an entry is chosen at the position, or none is
   chosen_or_not : HaveOne votes → (k : ℕ) → Decided (Chosen k)
   chosen_or_not one k =
-      elim (first_below (λ s. ChosenIn k (votes s)) (λ s. chosen_in one k (votes s)) n) [
+      elim (first_in (λ s. ChosenIn k (votes s)) (λ s. chosen_in one k (votes s)) voters) [
         | inl found ↦ inl found
         | inr none ↦ inr (λ c. let v = voter k c in none v.0 v.1 (v.2, slice_get_within (votes v.0) v.2 (Accept k c.1.ballot c.0) v.3, (c, v.3)))
-      ]
-
-  -- no entry is chosen behind this position
-  abbrev NoneBehind : ℕ → Type 0
-  NoneBehind m = (k : ℕ) (e : Entry) → IsChosen votes n k e → k ≤ m
-
-  -- the last of the chosen entries
-  record IsLast (i : ℕ) (e : Entry) : Type 0 where
-    chosen : IsChosen votes n (i + 1) e
-    none_behind : NoneBehind (i + 1)
-
-  last_chosen : HaveOne votes → (m : ℕ) → NoneBehind m → ((i : ℕ) × (e : Entry) × IsLast i e) ⊎ NoneBehind 0
-  last_chosen one zero h = inr h
-  last_chosen one (suc m) h =
-      elim (chosen_or_not one (m + 1)) [
-        | inl found ↦ inl (m, found.0, record { chosen = record { behind = omega arith; chosen = found.1 }; none_behind = λ k e c. omega (arith, h k e c) })
-        | inr none ↦ last_chosen one m (λ k e c. elim (cases_lt m k) [
-          | inl above ↦ absurd (none (e, let q : k ≡ m + 1 = omega (arith, above, h k e c) in subst (λ (j : ℕ). ChosenBy votes (services_below n) j e) q c.chosen))
-          | inr below ↦ below
-        ])
       ]
 
 -- ---- the chain
@@ -289,46 +292,60 @@ member_at [] i less = absurd (omega (arith, less))
 member_at (e ∷ members) zero less = (e, refl)
 member_at (e ∷ members) (suc i) less = member_at members i (omega (arith, less))
 
-module _ (votes : ℕ → List Record) (origin : Origin) where
-  -- no linked list goes on behind the last chosen entry
-  linked_within : (m : ℕ) → NoneBehind votes origin.services m → (members : List Entry) → IsLinked votes (all_services origin.services) origin members → length members ≤ m
-  linked_within m h members linked =
-      elim (cases_lt m (length members)) [
+module _ (l : Laws) (votes : ℕ → List Record) (origin : Origin) where
+  bound : ℕ
+  bound = positions_below votes origin.services
+
+  -- no linked list is longer than the greatest position that stands in the lists
+  linked_within : AreKnown origin.services origin.plan → (c : List Entry) → IsLinked votes origin c → length c ≤ bound
+  unfolding bound
+  linked_within known c linked =
+      elim (cases_lt (positions_below votes origin.services) (length c)) [
         | inl less ↦
-            let e = member_at members m less in
-            let c : IsChosen votes origin.services (m + 1) e.0 = record { behind = omega arith; chosen = linked.chosen m e.0 e.1 } in
-            omega (arith, h (m + 1) e.0 c)
+            let m = positions_below votes origin.services in
+            let e = member_at c m less in
+            let here = l.chosen votes origin c m e.0 linked e.1 in
+            let within = chosen_within votes (voters_behind origin here.members) origin.services (voters_known votes origin known here.members here.linked) (m + 1) (e.0, here.chosen) in
+            omega (arith, within)
         | inr within ↦ within
       ]
 
-  -- each chosen entry ends a linked list
-  abbrev AllEnd : Type 0
-  AllEnd = (i : ℕ) (e : Entry) → IsChosen votes origin.services (i + 1) e → (members : List Entry) × (length members ≡ i) × IsLinked votes (all_services origin.services) origin (members ++ e ∷ [])
-
-  none_linked : IsLinked votes (all_services origin.services) origin []
-  none_linked = record {
-    chosen = λ i e at. absurd (let q : None ≡ Some e = at in cc);
-    links = λ i e at. absurd (let q : None ≡ Some e = at in cc);
-  }
-
-  pub chain_found : HaveOne votes → AllEnd → (chain : List Entry) × IsChain votes (all_services origin.services) origin chain
-  chain_found one ends =
-      elim (last_chosen votes origin.services one (positions_below votes origin.services) (λ k e c. chosen_within votes origin.services k (e, c.chosen))) [
-        | inl last ↦
-            let e = ends last.0 last.1 last.2.chosen in (
-              e.0 ++ last.1 ∷ [],
-              record {
-                linked = e.2;
-                longest = λ other linked. omega (arith, linked_within (last.0 + 1) last.2.none_behind other linked, length_push e.0 last.1, e.1);
-              },
-            )
-        | inr none ↦ ([], record { linked = none_linked; longest = λ other linked. linked_within 0 none other linked })
+  -- a list behind which nothing is chosen is the longest
+  none_longer : Agrees votes origin → (c : List Entry) → IsLinked votes origin c → (Chosen votes (voters_behind origin c) (length c + 1) → ⊥)
+      → (other : List Entry) → IsLinked votes origin other → length other ≤ length c
+  none_longer agrees c linked none other further =
+      elim (cases_lt (length c) (length other)) [
+        | inl less ↦
+            let e = member_at other (length c) less in
+            let b = l.begins votes origin c other agrees linked further (omega (arith, less)) in
+            let front : take (length c) other ≡ c = ap (take (length c)) (sym b.1) ∙ take_at c b.0 (length c) refl in
+            absurd (none (e.0, subst (λ (members : List Entry). ChosenBy votes (voters_behind origin members) (length c + 1) e.0) front (further.chosen (length c) e.0 e.1)))
+        | inr within ↦ within
       ]
+
+  -- what is chosen behind a linked list links on to it
+  abbrev AllLink : Type 0
+  AllLink = (c : List Entry) (e : Entry) → IsLinked votes origin c → ChosenBy votes (voters_behind origin c) (length c + 1) e → LinksBehind origin c e
+
+  chain_behind : HaveOne votes → Agrees votes origin → AreKnown origin.services origin.plan → AllLink → (left : ℕ) (c : List Entry) → IsLinked votes origin c → bound ≤ length c + left
+      → (chain : List Entry) × IsChain votes origin chain
+  chain_behind one agrees known links zero c linked fits =
+      (c, record { linked = linked; longest = λ other further. omega (arith, linked_within known other further, fits) })
+  chain_behind one agrees known links (suc left) c linked fits =
+      elim (chosen_or_not votes (voters_behind origin c) one (length c + 1)) [
+        | inl found ↦ chain_behind one agrees known links left (c ++ found.0 ∷ []) (l.goes_on votes origin c found.0 linked found.1 (links c found.0 linked found.1)) (omega (arith, fits, length_push c found.0))
+        | inr none ↦ (c, record { linked = linked; longest = none_longer agrees c linked none })
+      ]
+
+  pub chain_found : HaveOne votes → Agrees votes origin → AreKnown origin.services origin.plan → AllLink → (chain : List Entry) × IsChain votes origin chain
+  chain_found one agrees known links = chain_behind one agrees known links bound [] (l.none votes origin) (omega arith)
 
 -- ---- views that tell a setting
 
 told_have_one : (setting : Setting) (view : View) → TellsSetting view setting → HaveOne (votes_told view)
 told_have_one setting view h s t i j k b e f x y = one_offer setting view h k b e f (vote_offered view setting h s i k b e x) (vote_offered view setting h t j k b f y)
 
-pub view_chain : (l : Laws) (setting : Setting) (view : View) → TellsSetting view setting → (chain : List Entry) × IsChain (votes_told view) (all_services setting.services) (origin_of setting) chain
-view_chain l setting view h = chain_found (votes_told view) (origin_of setting) (told_have_one setting view h) (λ i e c. view_linked l setting view h i e c)
+pub view_chain : (l : Laws) (setting : Setting) (view : View) → TellsSetting view setting → (chain : List Entry) × IsChain (votes_told view) (origin_of setting) chain
+view_chain l setting view h =
+    chain_found l (votes_told view) (origin_of setting) (told_have_one setting view h) (view_agrees l setting view h) (first_known setting h.ranges)
+    (λ c e linked chosen. view_links l setting view h (length c + 1) e (record { members = c; linked = linked; at = refl; chosen = chosen }))

@@ -4,6 +4,7 @@ use Rattle.std.specs.List.{filter_map}
 use Rattle.std.proofs.lemmas.List.Elements.{filter_map-append}
 use mathlib.Core.List.{IsPrefix}
 use Rattle.ms_core.specs.Growth.{valid_grows, backed_grows, put_stays}
+use Rattle.ms_core.specs.Valid.{plan_behind}
 use Rattle.ms_core.specs.Views.{View, configuration, owner_of_client, log_in, offers_told, votes_told, WholeBy, IsWhole, SupportsEvent, SupportsLog, SupportsOwn, IsSupported, TellsSetting, IsClosed}
 use Rattle.ms_ken.specs.Lists.{list_at, Begins, Agree, longer, longer_lists}
 use Rattle.ms_ken.specs.Prefixes.{longer_by, longer_of_nil, longer_first, prefix_get}
@@ -17,12 +18,12 @@ use Rattle.ms_record.specs.declared.log.LogEvent.{LogEvent}
 use Rattle.ms_record.specs.declared.log.LogEvent.TheVariants.{Rec, Put, Drop}
 use Rattle.ms_record.specs.declared.record.Record.TheVariants.{Prepare, Accept}
 use Rattle.ms_record.specs.declared.setting.Setting.{Setting}
-use Rattle.ms_record.specs.Growing.{LogsGrow, votes_grow, justified_grows}
+use Rattle.ms_record.specs.Growing.{LogsGrow, votes_grow, is_justified_grows}
 use Rattle.ms_record.specs.Items.{event_in, offer_in}
 use Rattle.ms_record.specs.Logs.{HasPut}
 use Rattle.ms_record.specs.Offers.{IsOffered}
 use Rattle.ms_record.specs.Plans.{PlanView}
-use Rattle.ms_record.specs.Votes.{services_below}
+use Rattle.ms_record.specs.Settings.{origin_of}
 
 -- ---- a support stays when lists grow
 
@@ -41,9 +42,7 @@ pub whole_more : (has more : ℕ → Name → Type 0) (plan : PlanView) (version
 whole_more has more plan version goes h = record {
   placed = record {
     store = h.placed.store;
-    top = h.placed.top;
-    below = h.placed.below;
-    named = h.placed.named;
+    holds = h.placed.holds;
     put = λ name text there. let e = h.placed.put name text there in record { part = e.part; have = λ s is. goes s name (e.have s is); enough = e.enough };
   };
   files = h.files;
@@ -73,10 +72,10 @@ own_stays setting xs ys begins client before (Offer (Accept k b e)) h =
       declared = record {
         own = h.declared.own;
         later = h.declared.later;
-        justified = justified_grows (votes_told xs) (votes_told ys) (services_below setting.services) k b e (votes_grow (log_in xs) (log_in ys) grows) h.declared.justified;
+        justified = is_justified_grows (votes_told xs) (votes_told ys) (origin_of setting) k b e (votes_grow (log_in xs) (log_in ys) grows) h.declared.justified;
         valid = valid_grows setting (log_in xs) (log_in ys) k e grows h.declared.valid;
       };
-      whole = whole_stays (log_in xs) (log_in ys) h.declared.valid.plan e.version grows h.whole;
+      whole = whole_stays (log_in xs) (log_in ys) (plan_behind setting h.declared.valid.next.members e) e.version grows h.whole;
     }
 own_stays setting xs ys begins client before (Offer (Prepare k b)) h = h
 own_stays setting xs ys begins client before (Log event) h = h

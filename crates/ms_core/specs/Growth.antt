@@ -1,19 +1,18 @@
 -- What holds of logs stays when they grow.
-use Rattle.std.proofs.Common.{ℕ, ◌+◌, List, inl, inr, subst, Contains}
+use Rattle.std.proofs.Common.{ℕ, List, inl, inr, subst, Contains}
 use Rattle.std.proofs.lemmas.List.Elements.{Contains-append_left}
 use Rattle.ms_base.specs.declared.names.Name.{Name}
 use Rattle.ms_core.specs.Placing.{PlacedBy, IsPlaced}
-use Rattle.ms_core.specs.Valid.{IsValid, IsBacked, votes_of_logs}
+use Rattle.ms_core.specs.Valid.{IsValid, IsBacked, plan_behind, votes_of_logs}
 use Rattle.ms_record.specs.declared.entry.Entry.{Entry}
 use Rattle.ms_record.specs.declared.log.LogEvent.{LogEvent}
 use Rattle.ms_record.specs.declared.log.LogEvent.TheVariants.{Put}
 use Rattle.ms_record.specs.declared.setting.Setting.{Setting}
-use Rattle.ms_record.specs.Chains.{IsLinked, all_services}
-use Rattle.ms_record.specs.Growing.{LogsGrow, votes_grow, chosen_grows}
+use Rattle.ms_record.specs.Chains.{IsLinked}
+use Rattle.ms_record.specs.Growing.{LogsGrow, votes_grow, linked_grows as linked_stays}
 use Rattle.ms_record.specs.Logs.{HasPut}
 use Rattle.ms_record.specs.Plans.{PlanView}
 use Rattle.ms_record.specs.Settings.{origin_of}
-use Rattle.ms_record.specs.Votes.{services_below}
 
 -- what was put stays put
 pub put_stays : (old new : ℕ → List LogEvent) (s generation : ℕ) (name : Name) → LogsGrow old new → HasPut (old s) generation name → HasPut (new s) generation name
@@ -24,9 +23,7 @@ put_stays old new s generation name g h =
 pub placed_more : (has more : ℕ → Name → Type 0) (plan : PlanView) (version : Name) → ((s : ℕ) (name : Name) → has s name → more s name) → PlacedBy has plan version → PlacedBy more plan version
 placed_more has more plan version goes h = record {
   store = h.store;
-  top = h.top;
-  below = h.below;
-  named = h.named;
+  holds = h.holds;
   put = λ name text there. let e = h.put name text there in record { part = e.part; have = λ s is. goes s name (e.have s is); enough = e.enough };
 }
 
@@ -35,21 +32,13 @@ placed_grows old new plan version g h =
     placed_more (λ s name. HasPut (old s) plan.generation name) (λ s name. HasPut (new s) plan.generation name) plan version (λ s name there. put_stays old new s plan.generation name g there) h
 
 pub linked_grows : (setting : Setting) (old new : ℕ → List LogEvent) (c : List Entry) → LogsGrow old new
-    → IsLinked (votes_of_logs old) (all_services setting.services) (origin_of setting) c → IsLinked (votes_of_logs new) (all_services setting.services) (origin_of setting) c
-linked_grows setting old new c g h = record {
-  chosen = λ i e at. chosen_grows (votes_of_logs old) (votes_of_logs new) (services_below setting.services) (i + 1) e (votes_grow old new g) (h.chosen i e at);
-  links = h.links;
-}
+    → IsLinked (votes_of_logs old) (origin_of setting) c → IsLinked (votes_of_logs new) (origin_of setting) c
+linked_grows setting old new c g h = linked_stays (votes_of_logs old) (votes_of_logs new) (origin_of setting) c (votes_grow old new g) h
 
 unfoldable pub valid_grows : (setting : Setting) (old new : ℕ → List LogEvent) (k : ℕ) (e : Entry) → LogsGrow old new → IsValid setting old k e → IsValid setting new k e
 valid_grows setting old new k e g h = record {
-  members = h.members;
-  linked = linked_grows setting old new h.members g h.linked;
-  at = h.at;
-  links = h.links;
-  plan = h.plan;
-  plan_is = h.plan_is;
-  placed = placed_grows old new h.plan e.version g h.placed;
+  next = record { members = h.next.members; linked = linked_grows setting old new h.next.members g h.next.linked; at = h.next.at; links = h.next.links };
+  placed = placed_grows old new (plan_behind setting h.next.members e) e.version g h.placed;
 }
 
 pub backed_grows : (setting : Setting) (old new : ℕ → List LogEvent) (floor : ℕ) → LogsGrow old new → IsBacked setting old floor → IsBacked setting new floor

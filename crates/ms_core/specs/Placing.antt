@@ -39,6 +39,10 @@ wanted_in (objects.File size blobs) = map (want_of Blob) blobs
 wanted_in (objects.Dir rows) = map (λ (row : Row). want_of (wanted_of row.kind) row.name) rows
 wanted_in (objects.Version client number parents root) = want_of Directory root ∷ []
 
+-- the format that an object is of
+abbrev pub format_of : Object → ℕ
+format_of object = 1
+
 -- the store has an object of that kind under that name
 pub record HasObject (store : Texts) (name : Name) (wanted : Wanted) : Type 0 where
   pub text : List ℕ
@@ -53,14 +57,26 @@ pub record OnEnough (has : ℕ → Type 0) (plan : PlanView) : Type 0 where
   pub have : (s : ℕ) → part s ≡ true → has s
   pub enough : plan.replicas ≤ count_by (λ (row : PlanRow). part row.service.0) plan.rows
 
--- A store with a version of that name: with each text it has what that names, and each text stands under its SHA-256
--- and is on enough services of the plan, where `has` says what a service has.
-pub record PlacedBy (has : ℕ → Name → Type 0) (plan : PlanView) (version : Name) : Type 0 where
-  pub store : Texts
+-- the text is an object of that format
+pub record IsOfFormat (format : ℕ) (text : List ℕ) : Type 0 where
+  pub object : Object
+  pub spells : Spells text object
+  pub format_is : format_of object ≡ format
+
+-- The store has a version of that name. Each of its texts is an object of the format and stands under its SHA-256, and with
+-- each text it has what that names, as objects of the kinds that name them.
+pub record HoldsVersion (format : ℕ) (store : Texts) (version : Name) : Type 0 where
   pub top : HasObject store version Version
+  pub formats : (name : Name) (text : List ℕ) → store name.0 ≡ Some text → IsOfFormat format text
   pub below : (name : Name) (text : List ℕ) (object : Object) → store name.0 ≡ Some text → Spells text object
       → All (λ (want : Want). HasObject store want.name want.wanted) (wanted_in object)
   pub named : (name : Name) (text : List ℕ) → store name.0 ≡ Some text → name.0 ≡ sha256 text
+
+-- a store holds the version in the plan's format, and each of its texts is on enough services of the plan, where `has` says
+-- what a service has
+pub record PlacedBy (has : ℕ → Name → Type 0) (plan : PlanView) (version : Name) : Type 0 where
+  pub store : Texts
+  pub holds : HoldsVersion plan.format store version
   pub put : (name : Name) (text : List ℕ) → store name.0 ≡ Some text → OnEnough (λ s. has s name) plan
 
 -- placed by puts in the plan's generation, whether they stand or not

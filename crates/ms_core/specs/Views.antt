@@ -4,7 +4,7 @@ use Rattle.sha2.specs.Sha256.{sha256}
 use Rattle.ms_base.specs.declared.names.ClientId.{ClientId}
 use Rattle.ms_base.specs.declared.names.Name.{Name}
 use Rattle.ms_core.specs.Placing.{PlacedBy}
-use Rattle.ms_core.specs.Valid.{IsValid, IsBacked, votes_of_logs}
+use Rattle.ms_core.specs.Valid.{IsValid, IsBacked, plan_behind, votes_of_logs}
 use Rattle.ms_ken.specs.Lists.{list_at}
 use Rattle.ms_object.specs.declared.object.Object.TheVariants as objects
 use Rattle.ms_object.specs.Objects.{Spells}
@@ -20,11 +20,10 @@ use Rattle.ms_record.specs.declared.record.Record.TheVariants.{Prepare, Accept}
 use Rattle.ms_record.specs.declared.setting.Setting.{Setting}
 use Rattle.ms_record.specs.Items.{events_of, offers_of_items}
 use Rattle.ms_record.specs.Logs.{HasPut, Stands}
-use Rattle.ms_record.specs.Offers.{IsOffered, JustifiedBy}
+use Rattle.ms_record.specs.Offers.{IsOffered, IsJustified}
 use Rattle.ms_record.specs.Plans.{PlanView}
 use Rattle.ms_record.specs.Reading.{record_at}
-use Rattle.ms_record.specs.Settings.{IsSetting}
-use Rattle.ms_record.specs.Votes.{services_below}
+use Rattle.ms_record.specs.Settings.{IsSetting, origin_of}
 
 -- for each owner a list of items
 abbrev pub View : Type 0
@@ -73,6 +72,11 @@ IsWhole logs plan version = WholeBy (λ s name. HasPut (logs s) plan.generation 
 abbrev pub StaysWhole : (ℕ → List LogEvent) → PlanView → Name → Type 0
 StaysWhole logs plan version = WholeBy (λ s name. Stands (logs s) plan.generation name) plan version
 
+-- a valid entry whose version is whole under the plan in force behind it
+pub record IsWholeMaster (setting : Setting) (logs : ℕ → List LogEvent) (position : ℕ) (e : Entry) : Type 0 where
+  pub valid : IsValid setting logs position e
+  pub whole : IsWhole logs (plan_behind setting valid.next.members e) e.version
+
 -- an Accept that a text of a vote list spells was offered
 abbrev pub SupportsVote : (ℕ → List Record) → List ℕ → Type 0
 SupportsVote offers text = (position : ℕ) (ballot : Ballot) (entry : Entry) → record_at text ≡ Some (Accept position ballot entry) → IsOffered offers position ballot entry
@@ -91,11 +95,11 @@ SupportsLog setting view (Told other) = ⊥
 SupportsLog setting view Untold = ⊥
 
 -- an offer that a client may declare behind its earlier ones: it is the client's own, of a greater round than each of those,
--- follows the rule at a majority, and its entry links on to a linked list with a version that is placed
+-- follows the rule at a majority of the voters, and its entry links on to a linked list with a version that is placed
 pub record IsDeclared (setting : Setting) (logs : ℕ → List LogEvent) (client : ℕ) (before : List Record) (position : ℕ) (ballot : Ballot) (entry : Entry) : Type 0 where
   pub own : ballot.client.0 ≡ client
   pub later : (k : ℕ) (b : Ballot) (e : Entry) → Contains before (Accept k b e) → b.round < ballot.round
-  pub justified : JustifiedBy (votes_of_logs logs) (services_below setting.services) position ballot entry
+  pub justified : IsJustified (votes_of_logs logs) (origin_of setting) position ballot entry
   pub valid : IsValid setting logs position entry
 
 abbrev pub MayDeclare : Setting → (ℕ → List LogEvent) → ℕ → List Record → Record → Type 0
@@ -105,7 +109,7 @@ MayDeclare setting logs client before (Prepare k b) = ⊥
 -- what supports an offer: it may be declared, and its version is whole
 pub record SupportsOffer (setting : Setting) (logs : ℕ → List LogEvent) (client : ℕ) (before : List Record) (position : ℕ) (ballot : Ballot) (entry : Entry) : Type 0 where
   pub declared : IsDeclared setting logs client before position ballot entry
-  pub whole : IsWhole logs declared.valid.plan entry.version
+  pub whole : IsWhole logs (plan_behind setting declared.valid.next.members entry) entry.version
 
 abbrev pub SupportsOwn : Setting → View → ℕ → List Item → Item → Type 0
 SupportsOwn setting view client before (Offer (Accept k b e)) = SupportsOffer setting (log_in view) client (offers_of_items before) k b e

@@ -3,9 +3,9 @@
 ghost use Rattle.std.specs.Prelude.{◌≡◌, ◌≢◌, ◌+◌, ◌<◌, ◌⊎◌, ◌++◌, ◌∷◌, [], ℕ, List, Some, Contains, length, replicate, slice_get};
 ghost use Rattle.sha2.specs.Sha256.{sha256};
 ghost use Rattle.ms_base.specs.declared.names.Name.{Name};
-ghost use Rattle.ms_core.specs.FirstBids.{IsBid, MayDrop, MayNotDrop, MayNotOffer, with_offer, with_put, with_vote};
-ghost use Rattle.ms_core.specs.Valid.{IsBacked, IsLive, IsValid};
-ghost use Rattle.ms_core.specs.Views.{View, configuration, owner_of_client, log_in, offers_told, votes_told, IsWhole, StaysWhole, SupportsEvent, SupportsOffer, IsSupported, IsClosed};
+ghost use Rattle.ms_core.specs.FirstBids.{IsBid, IsCollected, MayDrop, MayNotDrop, MayNotOffer, with_drop, with_offer, with_put, with_vote};
+ghost use Rattle.ms_core.specs.Valid.{IsBacked, IsLive, plan_at};
+ghost use Rattle.ms_core.specs.Views.{View, configuration, owner_of_client, log_in, offers_told, votes_told, IsWholeMaster, StaysWhole, SupportsEvent, SupportsOffer, IsSupported, IsClosed};
 ghost use Rattle.ms_ken.specs.Lists.{list_at, Agree, Begins as BeginsView, MayFollow, longer_lists, with_item};
 ghost use Rattle.ms_record.specs.declared.ballot.Ballot.{Ballot};
 ghost use Rattle.ms_record.specs.declared.entry.Entry.{Entry};
@@ -15,46 +15,44 @@ ghost use Rattle.ms_record.specs.declared.log.LogEvent.{LogEvent};
 ghost use Rattle.ms_record.specs.declared.log.LogEvent.TheVariants.{Put, Drop};
 ghost use Rattle.ms_record.specs.declared.record.Record.TheVariants.{Accept};
 ghost use Rattle.ms_record.specs.declared.setting.Setting.{Setting};
-ghost use Rattle.ms_record.specs.Chains.{Agrees, Begins, IsChain, IsChosen, IsLinked, all_services};
-ghost use Rattle.ms_record.specs.Offers.{IsOffered, JustifiedBy};
-ghost use Rattle.ms_record.specs.Plans.{PlanView};
+ghost use Rattle.ms_record.specs.Chains.{Agrees, Begins, IsChain, IsChosen, IsLinked};
+ghost use Rattle.ms_record.specs.Offers.{IsJustified, IsOffered};
 ghost use Rattle.ms_record.specs.Settings.{IsSetting, origin_of};
 ghost use Rattle.ms_record.specs.Votes.{services_below};
 
 use ms_object::object::one_spelling as objects_have_one;
-use ms_record::law::{ballots_agree, one_chain, places_stay};
+use ms_record::law::{masters_agree, one_chain};
 use ms_record::record::one_spelling;
 
 /// For every closed view that tells a setting, which is what every pass of such a board has (`Pass::recall`).
 pub fn told_views()
     // Two entries chosen at one position are one.
-    ensures agrees { (view : View) (setting : Setting) → IsClosed view → list_at view configuration ≡ Told setting ∷ [] → Agrees (votes_told view) setting.services }
+    ensures agrees { (view : View) (setting : Setting) → IsClosed view → list_at view configuration ≡ Told setting ∷ [] → Agrees (votes_told view) (origin_of setting) }
     // A chosen entry links on to the members before it, and its version is placed, by texts whose files are something.
     ensures valid { (view : View) (setting : Setting) → IsClosed view → list_at view configuration ≡ Told setting ∷ []
-        → (k : ℕ) (e : Entry) → IsChosen (votes_told view) setting.services k e → (valid : IsValid setting (log_in view) k e) × IsWhole (log_in view) valid.plan e.version }
+        → (k : ℕ) (e : Entry) → IsChosen (votes_told view) (origin_of setting) k e → IsWholeMaster setting (log_in view) k e }
     // A chosen entry ends a linked list.
     ensures linked { (view : View) (setting : Setting) → IsClosed view → list_at view configuration ≡ Told setting ∷ []
-        → (i : ℕ) (e : Entry) → IsChosen (votes_told view) setting.services (i + 1) e
-        → (members : List Entry) × (length members ≡ i) × IsLinked (votes_told view) (all_services setting.services) (origin_of setting) (members ++ e ∷ []) }
+        → (i : ℕ) (e : Entry) → IsChosen (votes_told view) (origin_of setting) (i + 1) e
+        → (members : List Entry) × (length members ≡ i) × IsLinked (votes_told view) (origin_of setting) (members ++ e ∷ []) }
     // There is a chain.
     ensures chain { (view : View) (setting : Setting) → IsClosed view → list_at view configuration ≡ Told setting ∷ []
-        → (chain : List Entry) × IsChain (votes_told view) (all_services setting.services) (origin_of setting) chain }
+        → (chain : List Entry) × IsChain (votes_told view) (origin_of setting) chain }
     // A chosen entry stands in the chain at its position.
     ensures stands { (view : View) (setting : Setting) (chain : List Entry) → IsClosed view → list_at view configuration ≡ Told setting ∷ []
-        → IsChain (votes_told view) (all_services setting.services) (origin_of setting) chain
-        → (i : ℕ) (e : Entry) → IsChosen (votes_told view) setting.services (i + 1) e → slice_get chain i ≡ Some e }
+        → IsChain (votes_told view) (origin_of setting) chain
+        → (i : ℕ) (e : Entry) → IsChosen (votes_told view) (origin_of setting) (i + 1) e → slice_get chain i ≡ Some e }
     // A live master stays placed by puts that stand, whatever was dropped.
     ensures live { (view : View) (setting : Setting) (chain : List Entry) → IsClosed view → list_at view configuration ≡ Told setting ∷ []
-        → IsChain (votes_told view) (all_services setting.services) (origin_of setting) chain
-        → (i : ℕ) (e : Entry) (plan : PlanView) → IsLive setting chain i e plan → StaysWhole (log_in view) plan e.version }
+        → IsChain (votes_told view) (origin_of setting) chain
+        → (i : ℕ) (e : Entry) → IsLive setting chain i e → StaysWhole (log_in view) (plan_at setting chain i) e.version }
     // Of the linked lists of two views that agree, as any two passes' do, one begins the other.
     ensures one_list { (one other : View) (setting : Setting) (c d : List Entry) → length one ≡ length other → IsClosed one → IsClosed other → Agree one other
         → list_at one configuration ≡ Told setting ∷ [] → list_at other configuration ≡ Told setting ∷ []
-        → IsLinked (votes_told one) (all_services setting.services) (origin_of setting) c
-        → IsLinked (votes_told other) (all_services setting.services) (origin_of setting) d → Begins c d ⊎ Begins d c }
+        → IsLinked (votes_told one) (origin_of setting) c
+        → IsLinked (votes_told other) (origin_of setting) d → Begins c d ⊎ Begins d c }
 {
-    ballots_agree();
-    places_stay();
+    masters_agree();
     one_chain();
     one_spelling();
 }
@@ -69,10 +67,10 @@ pub fn supports()
     // No vote is invented: each Accept in a vote list was offered.
     ensures votes { (view : View) (setting : Setting) → IsClosed view → list_at view configuration ≡ Told setting ∷ []
         → (service place k : ℕ) (b : Ballot) (e : Entry) → slice_get (votes_told view service) place ≡ Some (Accept k b e) → IsOffered (offers_told view) k b e }
-    // Each offer follows the rule at a majority, and its entry is valid with a version that is placed and whole.
+    // Each offer follows the rule at a majority of the voters, and its entry is valid with a version that is placed and whole.
     ensures offers { (view : View) (setting : Setting) → IsClosed view → list_at view configuration ≡ Told setting ∷ []
         → (k : ℕ) (b : Ballot) (e : Entry) → IsOffered (offers_told view) k b e
-        → JustifiedBy (votes_told view) (services_below setting.services) k b e × ((valid : IsValid setting (log_in view) k e) × IsWhole (log_in view) valid.plan e.version) }
+        → IsJustified (votes_told view) (origin_of setting) k b e × IsWholeMaster setting (log_in view) k e }
     // Each ballot has one offer at a position.
     ensures one_offer { (view : View) (setting : Setting) → IsClosed view → list_at view configuration ≡ Told setting ∷ []
         → (k : ℕ) (b : Ballot) (e f : Entry) → IsOffered (offers_told view) k b e → IsOffered (offers_told view) k b f → e ≡ f }
@@ -121,11 +119,14 @@ pub fn first_bids()
         → (view : View) × (directory version : List ℕ) × (ballot : Ballot) × (entry : Entry) × (prepare accept : List ℕ)
         × IsBid setting (with_put (with_put view 1 directory) 1 version) 1 ballot entry prepare accept
         × MayNotOffer view 1 ballot entry prepare × MayNotDrop (with_put (with_put view 1 directory) 1 version) 2 }
-    // It then bids for position 2, with a plan of generation 2. Once that is chosen, the drop may follow.
+    // It then bids for position 2, with a plan of generation 2. Once that is chosen, the drop may follow. Behind the drop the
+    // master at 2 is live, and no put of generation 1 stands.
     ensures second { (setting : Setting) → IsSetting setting → setting.services ≡ 1
         → (view : View) × (ballot : Ballot) × (entry : Entry) × (prepare accept : List ℕ) × IsBid setting view 2 ballot entry prepare accept
-        × MayDrop (with_vote (with_offer (with_vote view prepare) 2 ballot entry) accept) 2 }
+        × MayDrop (with_vote (with_offer (with_vote view prepare) 2 ballot entry) accept) 2
+        × IsCollected setting (with_drop (with_vote (with_offer (with_vote view prepare) 2 ballot entry) accept) 2) entry }
 {
+    one_chain();
     objects_have_one();
     one_spelling();
 }

@@ -9,4 +9,4 @@ pub returns-clause-first : goal.returns-clause-first
 returns-clause-first c = first_bids (read c)
 
 pub returns-clause-second : goal.returns-clause-second
-returns-clause-second c = second_bids (read c)
+returns-clause-second c = second_bids c.one_chain.ensures.chosen (read c)

@@ -17,7 +17,7 @@ returns-clause-votes c = λ view setting closed told s place k b e at. vote_offe
 pub returns-clause-offers : goal.returns-clause-offers
 returns-clause-offers c = λ view setting closed told k b e o.
     let s = (offered view setting (tells view setting closed told) k b e o).1.supports in
-    (s.declared.justified, (s.declared.valid, s.whole))
+    (s.declared.justified, record { valid = s.declared.valid; whole = s.whole })
 
 pub returns-clause-one_offer : goal.returns-clause-one_offer
 returns-clause-one_offer c = λ view setting closed told k b e f x y. one_offer setting view (tells view setting closed told) k b e f x y

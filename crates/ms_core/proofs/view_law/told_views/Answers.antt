@@ -6,11 +6,12 @@ use Rattle.ms_core.proofs.view_law.told_views.Goals as goal
 
 laws : (c : goal.After-one_spelling) → Laws
 laws c = record {
-  one = c.ballots_agree.ensures.one;
-  chosen = c.places_stay.ensures.chosen;
-  justified = c.places_stay.ensures.justified;
+  agrees = c.masters_agree.ensures.one;
   begins = c.one_chain.ensures.begins;
+  one_list = c.one_chain.ensures.one_list;
   stands = c.one_chain.ensures.stands;
+  none = c.one_chain.ensures.none;
+  chosen = c.one_chain.ensures.chosen;
   goes_on = c.one_chain.ensures.goes_on;
   read = c.one_spelling.ensures.again;
 }
@@ -31,7 +32,7 @@ pub returns-clause-stands : goal.returns-clause-stands
 returns-clause-stands c = λ view setting chain closed told is i e chosen. view_stands (laws c) setting view chain (tells view setting closed told) is i e chosen
 
 pub returns-clause-live : goal.returns-clause-live
-returns-clause-live c = λ view setting chain closed told is i e plan live. view_live (laws c) setting view chain i e plan (tells view setting closed told) is live
+returns-clause-live c = λ view setting chain closed told is i e live. view_live (laws c) setting view chain i e (tells view setting closed told) is live
 
 pub returns-clause-one_list : goal.returns-clause-one_list
 returns-clause-one_list c = λ one other setting a b wide p q agree x y la lb. views_agree (laws c) setting one other a b wide p q agree x y la lb
