@@ -2,6 +2,7 @@ mod Agreement
 mod BallotOrder
 mod ChainLaws
 mod EntryLaws
+mod EvenPlan
 mod Feeding
 mod FieldLaws
 mod Filling

@@ -1,9 +1,10 @@
 -- What all clients agree on from the start.
-use Rattle.std.specs.Prelude.{◌≡◌, ℕ, ◌≤◌, Some}
+use Rattle.std.specs.Prelude.{◌≡◌, ℕ, ◌≤◌, Some, map}
+use Rattle.ms_record.specs.declared.plan.PlanRow.{PlanRow}
 use Rattle.ms_record.specs.declared.setting.Setting.{Setting}
 use Rattle.ms_record.specs.Chains.{Origin, plan_after, voters_of}
 use Rattle.ms_record.specs.Entries.{IsEntry, name_of}
-use Rattle.ms_record.specs.Plans.{PlanView, no_plan}
+use Rattle.ms_record.specs.Plans.{PlanView, plan_of, no_plan}
 use Rattle.ms_record.specs.Votes.{services_below}
 
 -- the first plan: of generation 1 and format 1, over all services in order
@@ -11,6 +12,14 @@ pub record IsFirstPlan (services : ℕ) (plan : PlanView) : Type 0 where
   pub generation : plan.generation ≡ 1
   pub format : plan.format ≡ 1
   pub rows : voters_of plan ≡ services_below services
+
+-- the row of this service with a capacity of 1
+abbrev pub even_row : ℕ → PlanRow
+even_row service = record { service = record { 0 = service }; capacity = 1 }
+
+-- the first plan over so many services where each has a capacity of one copy
+abbrev pub even_plan : ℕ → ℕ → PlanView
+even_plan services replicas = plan_of 1 1 replicas 1 (map even_row (services_below services))
 
 -- the numbers are in their ranges, and the genesis is a plan entry over all services
 pub record IsSetting (setting : Setting) : Type 0 where

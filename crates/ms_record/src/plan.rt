@@ -1,9 +1,10 @@
 //! Plans: which services hold the objects, and how many copies of each.
 
-ghost use Rattle.std.specs.Prelude.{◌≡◌, ◌<◌, ◌^◌, Some, IfSome};
+ghost use Rattle.std.specs.Prelude.{◌≡◌, ◌<◌, ◌≤◌, ◌^◌, Some, IfSome};
 ghost use Rattle.std.specs.Bool.{OnTrue};
 ghost use Rattle.ms_record.specs.Plans.{IsPlan, plan_of};
 ghost use Rattle.ms_record.specs.PlanTests.{AreCapacities, are_rows as are_rows_from, is_plan, is_row as is_row_from, plan_if};
+ghost use Rattle.ms_record.specs.Settings.{IsFirstPlan, even_plan};
 
 use ms_base::ServiceId;
 use std::marker::Model;
@@ -83,6 +84,29 @@ impl Plan {
             rows: all,
             count: rows.len(),
         })
+    }
+
+    /// The first plan over so many services, each with a capacity of one copy.
+    pub fn even(services: u32, replicas: u32) -> Plan
+        requires some_services { 1 ≤ services }
+        requires few_services { services ≤ 16 }
+        requires some_replicas { 1 ≤ replicas }
+        requires few_replicas { replicas ≤ services }
+        ensures is { result ≡ even_plan services replicas }
+        ensures rules { IsPlan result }
+        ensures first { IsFirstPlan services result }
+    {
+        let mut rows = [NO_ROW; MOST_ROWS];
+        for i in 0..MOST_ROWS {
+            rows[i] = PlanRow {
+                service: ServiceId(i as u32),
+                capacity: 1,
+            };
+        }
+        match Plan::new(1, 1, replicas, 1, &rows[..services as usize]) {
+            Some(plan) => plan,
+            None => unreachable!(),
+        }
     }
 
     /// The generation in which the objects lie, from 1 to 4,294,967,294.

@@ -35,7 +35,8 @@ impl Model for ServiceSet {
 impl ServiceSet {
     /// The services of a plan: those that vote where it is in force.
     pub fn of_plan(plan: &Plan) -> ServiceSet
-        ensures { result ≡ voters_of plan.now }
+        ensures are { result ≡ voters_of plan.now }
+        ensures some { 1 ≤ length result }
     {
         let rows = plan.rows();
         let mut services = [ServiceId(0); MOST_ROWS];
@@ -51,7 +52,8 @@ impl ServiceSet {
     /// The first so many services.
     pub fn all(services: u32) -> ServiceSet
         requires { services ≤ 16 }
-        ensures { result ≡ services_below services }
+        ensures are { result ≡ services_below services }
+        ensures many { length result ≡ services }
     {
         let mut all = [ServiceId(0); MOST_ROWS];
         for i in 0..services {
