@@ -2,6 +2,7 @@
 use Rattle.std.specs.Prelude.{ℕ, ◌+◌, List, [], ◌∷◌, ◌++◌, codes, length, Option, Some, None}
 use Rattle.std.specs.Fmt.{decimal}
 use Rattle.hex.specs.Hex.{encode_lower}
+use Rattle.ms_base.specs.declared.names.Name.{Name}
 use Rattle.ms_base.specs.declared.names.Quantity.{Quantity}
 use Rattle.ms_base.specs.declared.names.Quantity.TheVariants as quantities
 use Rattle.ms_record.specs.declared.entry.Entry.{Entry}
@@ -124,14 +125,34 @@ drill_text genesis entries known = audit_text genesis entries ++ known_lines 0 k
 unfoldable pub hash_text : ℕ → ℕ → List ℕ → List ℕ
 hash_text files objects root = codes "files " ++ decimal files ++ codes "\nobjects " ++ decimal objects ++ codes "\nroot " ++ encode_lower root ++ codes "\n"
 
-unfoldable pub refusal_text : Refusal → List ℕ
+-- `bad TEXT LINE`
+unfoldable pub bad_line : Place → ℕ → List ℕ
+bad_line place line = codes "bad " ++ text_word place ++ codes " " ++ decimal line ++ codes "\n"
+
+-- `fault PLACE`
+unfoldable pub fault_line : Place → List ℕ
+fault_line place = codes "fault " ++ place_word place ++ codes "\n"
+
+-- `split POSITION NAME NAME`
+unfoldable pub split_line : ℕ → Name → Name → List ℕ
+split_line position first second = codes "split " ++ decimal position ++ codes " " ++ encode_lower first.0 ++ codes " " ++ encode_lower second.0 ++ codes "\n"
+
+-- `limit QUANTITY VALUE`
+unfoldable pub limit_line : Quantity → ℕ → List ℕ
+limit_line what value = codes "limit " ++ quantity_word what ++ codes " " ++ decimal value ++ codes "\n"
+
+-- `event NUMBER WHY`
+unfoldable pub event_line : ℕ → Why → List ℕ
+event_line event why = codes "event " ++ decimal event ++ codes " " ++ why_word why ++ codes "\n"
+
+abbrev pub refusal_text : Refusal → List ℕ
 refusal_text Usage = codes "usage\n"
-refusal_text (BadInput place line) = codes "bad " ++ text_word place ++ codes " " ++ decimal line ++ codes "\n"
-refusal_text (OutsideFault place) = codes "fault " ++ place_word place ++ codes "\n"
+refusal_text (BadInput place line) = bad_line place line
+refusal_text (OutsideFault place) = fault_line place
 refusal_text NoMemory = codes "no memory\n"
-refusal_text (Split position first second) = codes "split " ++ decimal position ++ codes " " ++ encode_lower first.0 ++ codes " " ++ encode_lower second.0 ++ codes "\n"
-refusal_text (NotEnabled event why) = codes "event " ++ decimal event ++ codes " " ++ why_word why ++ codes "\n"
-refusal_text (Limit what value) = codes "limit " ++ quantity_word what ++ codes " " ++ decimal value ++ codes "\n"
+refusal_text (Split position first second) = split_line position first second
+refusal_text (Limit what value) = limit_line what value
+refusal_text (NotEnabled event why) = event_line event why
 
 abbrev pub text_of : Report → List ℕ
 text_of (Audit genesis entries) = audit_text genesis.0 entries

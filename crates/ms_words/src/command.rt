@@ -1,11 +1,9 @@
 //! What the program is asked to do.
 
-ghost use Rattle.std.specs.Prelude.{◌≡◌, IfOk, IfSome, ℕ, List};
+ghost use Rattle.std.specs.Prelude.{◌≡◌, IfOk};
 ghost use Rattle.std.specs.Str.{IsUtf8};
 ghost use Rattle.std.specs.Option.{option_map};
-ghost use Rattle.ms_words.specs.Commands.{ReadsWords, word_texts, command_of, one_file, IsText};
-ghost use Rattle.ms_words.specs.declared.command.Command.{Command};
-ghost use Rattle.ms_words.specs.declared.command.Command.TheVariants as commands;
+ghost use Rattle.ms_words.specs.Commands.{ReadsWords, command_of, command_with, word_texts, one_file, verb_of, IsText};
 ghost use Rattle.ms_words.specs.declared.command.WordsError.TheVariants as errors;
 
 use ms_base::{Bytes, NoMemory};
@@ -35,72 +33,68 @@ impl From<NoMemory> for WordsError {
     }
 }
 
-/// The command of the words.
+/// What the first word asks for.
+#[derive(Clone, Copy, Debug, PartialEq, Eq)]
+pub enum Verb {
+    Audit,
+    Drill,
+    Hash,
+}
+
+/// The command of the words. Memory is taken only for a command.
 #[tactic(auto, unfolding(crate::specs::Commands::command_of))]
 pub fn read_words(alloc: Global, words: &[String]) -> Result<Command, WordsError>
     ensures exact { ReadsWords result (command_of (word_texts words.now)) }
     ensures text { IfOk result IsText }
 {
-    match words {
-        [] => Err(WordsError::Usage),
-        [word, rest @ ..] => {
-            let word = word.as_str();
-            if word == "audit" {
-                read_audit(alloc, rest)
-            } else if word == "drill" {
-                read_drill(alloc, rest)
-            } else if word == "hash" {
-                read_hash(alloc, rest)
-            } else {
-                Err(WordsError::Usage)
-            }
-        }
+    let [word, rest @ ..] = words else {
+        return Err(WordsError::Usage);
+    };
+    let Some(verb) = verb_of(word.as_str()) else {
+        return Err(WordsError::Usage);
+    };
+    let Some(file) = one_file(rest) else {
+        return Err(WordsError::Usage);
+    };
+    let file = Bytes::of(alloc, file.as_bytes())?;
+    Ok(command_with(verb, file))
+}
+
+fn verb_of(word: &str) -> Option<Verb>
+    ensures { result ≡ verb_of word.now }
+{
+    if word == "audit" {
+        Some(Verb::Audit)
+    } else if word == "drill" {
+        Some(Verb::Drill)
+    } else if word == "hash" {
+        Some(Verb::Hash)
+    } else {
+        None
     }
 }
 
-fn read_audit(alloc: Global, words: &[String]) -> Result<Command, WordsError>
-    ensures exact { ReadsWords result (option_map commands.Audit (one_file (word_texts words.now))) }
-    ensures text { IfOk result IsText }
+fn command_with(verb: Verb, file: Bytes) -> Command
+    ensures is { result ≡ command_with verb file }
+    ensures text { IsUtf8 file → IsText result }
 {
-    match one_file(alloc, words) {
-        Ok(file) => Ok(Command::Audit { file }),
-        Err(error) => Err(error),
-    }
-}
-
-fn read_drill(alloc: Global, words: &[String]) -> Result<Command, WordsError>
-    ensures exact { ReadsWords result (option_map commands.Drill (one_file (word_texts words.now))) }
-    ensures text { IfOk result IsText }
-{
-    match one_file(alloc, words) {
-        Ok(file) => Ok(Command::Drill { file }),
-        Err(error) => Err(error),
-    }
-}
-
-fn read_hash(alloc: Global, words: &[String]) -> Result<Command, WordsError>
-    ensures exact { ReadsWords result (option_map commands.Hash (one_file (word_texts words.now))) }
-    ensures text { IfOk result IsText }
-{
-    match one_file(alloc, words) {
-        Ok(file) => Ok(Command::Hash { file }),
-        Err(error) => Err(error),
+    match verb {
+        Verb::Audit => Command::Audit { file },
+        Verb::Drill => Command::Drill { file },
+        Verb::Hash => Command::Hash { file },
     }
 }
 
 /// The one file of these words, whose name does not begin with `-`.
-fn one_file(alloc: Global, words: &[String]) -> Result<Bytes, WordsError>
-    ensures exact { ReadsWords result (one_file (word_texts words.now)) }
-    ensures text { IfOk result IsUtf8 }
+fn one_file(words: &[String]) -> Option<&str>
+    ensures { option_map (λ file. file.now) result ≡ one_file (word_texts words.now) }
 {
-    match words {
-        [file] => {
-            let text = file.as_str();
-            if text.starts_with('-') {
-                return Err(WordsError::Usage);
-            }
-            Ok(Bytes::of(alloc, text.as_bytes())?)
-        }
-        _ => Err(WordsError::Usage),
+    let [file] = words else {
+        return None;
+    };
+    let file = file.as_str();
+    if file.starts_with('-') {
+        return None;
     }
+    Some(file)
 }

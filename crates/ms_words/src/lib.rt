@@ -3,9 +3,11 @@
 
 pub mod command;
 pub mod lines;
+pub mod reasons;
 pub mod report;
 
-pub use command::{Command, WordsError, read_words};
+pub use command::{Command, Verb, WordsError, read_words};
+pub use reasons::{kind_word, place_word, quantity_word, text_word, why_word};
 pub use report::{Known, Report, print_report, status};
 
 #[cfg(test)]

@@ -3,64 +3,17 @@
 ghost use Rattle.std.specs.Prelude.{◌≡◌, ◌++◌, OnOk};
 ghost use Rattle.hex.specs.Hex.{encode_lower};
 ghost use Rattle.ms_record.specs.Entries.{name_of};
-ghost use Rattle.ms_words.specs.Texts.{text_word, place_word, quantity_word, kind_word, generation_word, author_text, member_line, member_lines, audit_text, drill_text, hash_text, known_line, known_lines, why_word, refusal_text};
+ghost use Rattle.ms_words.specs.Texts.{kind_word, generation_word, author_text, member_line, member_lines, audit_text, drill_text, hash_text, known_line, known_lines, bad_line, fault_line, split_line, limit_line, event_line, refusal_text};
 
+use crate::reasons::{kind_word, place_word, quantity_word, text_word, why_word};
 use ms_base::{Name, NoMemory, Quantity};
 use ms_record::{Entry, Place, Refusal, Why, entry_name};
 use ms_text::{push_name, push_number, push_text};
 
-fn push_place(out: &mut Vec<u8>, place: Place) -> Result<(), NoMemory>
-    ensures { OnOk result (out.new.items ≡ out.old.items ++ place_word place) }
-{
-    match place {
-        Place::Config => push_text(out, b"config"),
-        Place::Input => push_text(out, b"input"),
-        Place::Desk => push_text(out, b"desk"),
-        Place::Work => push_text(out, b"work"),
-        Place::Keep => push_text(out, b"keep"),
-    }
-}
-
-fn push_text_place(out: &mut Vec<u8>, place: Place) -> Result<(), NoMemory>
-    ensures { OnOk result (out.new.items ≡ out.old.items ++ text_word place) }
-{
-    match place {
-        Place::Config => push_text(out, b"config"),
-        _ => push_text(out, b"input"),
-    }
-}
-
-fn push_quantity(out: &mut Vec<u8>, what: Quantity) -> Result<(), NoMemory>
-    ensures { OnOk result (out.new.items ≡ out.old.items ++ quantity_word what) }
-{
-    match what {
-        Quantity::Service => push_text(out, b"service"),
-        Quantity::Clients => push_text(out, b"clients"),
-        Quantity::Path => push_text(out, b"path"),
-        Quantity::Part => push_text(out, b"part"),
-        Quantity::Levels => push_text(out, b"levels"),
-        Quantity::File => push_text(out, b"file"),
-        Quantity::Files => push_text(out, b"files"),
-        Quantity::Total => push_text(out, b"total"),
-        Quantity::Object => push_text(out, b"object"),
-        Quantity::Position => push_text(out, b"position"),
-        Quantity::Round => push_text(out, b"round"),
-        Quantity::Number => push_text(out, b"number"),
-        Quantity::Generation => push_text(out, b"generation"),
-        Quantity::Input => push_text(out, b"input"),
-        Quantity::Events => push_text(out, b"events"),
-        Quantity::Asked => push_text(out, b"asked"),
-    }
-}
-
-#[tactic(auto, unfolding(crate::specs::Texts::kind_word))]
 fn push_kind(out: &mut Vec<u8>, entry: &Entry) -> Result<(), NoMemory>
     ensures { OnOk result (out.new.items ≡ out.old.items ++ kind_word entry.now.plan) }
 {
-    match &entry.plan {
-        None => push_text(out, b" push "),
-        Some(_) => push_text(out, b" plan "),
-    }
+    push_text(out, kind_word(entry))
 }
 
 #[tactic(auto, unfolding(crate::specs::Texts::generation_word))]
@@ -187,9 +140,9 @@ pub(crate) fn push_hash(
     push_text(out, b"\n")
 }
 
-#[tactic(auto, unfolding(crate::specs::Texts::refusal_text))]
+#[tactic(auto, unfolding(crate::specs::Texts::split_line))]
 fn push_split(out: &mut Vec<u8>, position: u32, first: &Name, second: &Name) -> Result<(), NoMemory>
-    ensures { OnOk result (out.new.items ≡ out.old.items ++ refusal_text (Refusal.Split position first.now second.now)) }
+    ensures { OnOk result (out.new.items ≡ out.old.items ++ split_line position first.now second.now) }
 {
     push_text(out, b"split ")?;
     push_number(out, u64::from(position))?;
@@ -200,73 +153,49 @@ fn push_split(out: &mut Vec<u8>, position: u32, first: &Name, second: &Name) -> 
     push_text(out, b"\n")
 }
 
-#[tactic(auto, unfolding(crate::specs::Texts::refusal_text))]
+#[tactic(auto, unfolding(crate::specs::Texts::limit_line))]
 fn push_limit(out: &mut Vec<u8>, what: Quantity, value: u64) -> Result<(), NoMemory>
-    ensures { OnOk result (out.new.items ≡ out.old.items ++ refusal_text (Refusal.Limit what value)) }
+    ensures { OnOk result (out.new.items ≡ out.old.items ++ limit_line what value) }
 {
     push_text(out, b"limit ")?;
-    push_quantity(out, what)?;
+    push_text(out, quantity_word(what))?;
     push_text(out, b" ")?;
     push_number(out, value)?;
     push_text(out, b"\n")
 }
 
-#[tactic(auto, unfolding(crate::specs::Texts::refusal_text))]
+#[tactic(auto, unfolding(crate::specs::Texts::bad_line))]
 fn push_bad_input(out: &mut Vec<u8>, place: Place, line: u32) -> Result<(), NoMemory>
-    ensures { OnOk result (out.new.items ≡ out.old.items ++ refusal_text (Refusal.BadInput place line)) }
+    ensures { OnOk result (out.new.items ≡ out.old.items ++ bad_line place line) }
 {
     push_text(out, b"bad ")?;
-    push_text_place(out, place)?;
+    push_text(out, text_word(place))?;
     push_text(out, b" ")?;
     push_number(out, u64::from(line))?;
     push_text(out, b"\n")
 }
 
-#[tactic(auto, unfolding(crate::specs::Texts::refusal_text))]
+#[tactic(auto, unfolding(crate::specs::Texts::fault_line))]
 fn push_fault(out: &mut Vec<u8>, place: Place) -> Result<(), NoMemory>
-    ensures { OnOk result (out.new.items ≡ out.old.items ++ refusal_text (Refusal.OutsideFault place)) }
+    ensures { OnOk result (out.new.items ≡ out.old.items ++ fault_line place) }
 {
     push_text(out, b"fault ")?;
-    push_place(out, place)?;
+    push_text(out, place_word(place))?;
     push_text(out, b"\n")
 }
 
-fn push_why(out: &mut Vec<u8>, why: Why) -> Result<(), NoMemory>
-    ensures { OnOk result (out.new.items ≡ out.old.items ++ why_word why) }
-{
-    match why {
-        Why::Client => push_text(out, b"client"),
-        Why::On => push_text(out, b"on"),
-        Why::Off => push_text(out, b"off"),
-        Why::Position => push_text(out, b"position"),
-        Why::Round => push_text(out, b"round"),
-        Why::Placed => push_text(out, b"placed"),
-        Why::Plan => push_text(out, b"plan"),
-        Why::Request => push_text(out, b"request"),
-        Why::Service => push_text(out, b"service"),
-        Why::Prefix => push_text(out, b"prefix"),
-        Why::Bid => push_text(out, b"bid"),
-        Why::Promises => push_text(out, b"promises"),
-        Why::Nothing => push_text(out, b"nothing"),
-        Why::Chosen => push_text(out, b"chosen"),
-        Why::Generation => push_text(out, b"generation"),
-        Why::Turned => push_text(out, b"turned"),
-    }
-}
-
-#[tactic(auto, unfolding(crate::specs::Texts::refusal_text))]
+#[tactic(auto, unfolding(crate::specs::Texts::event_line))]
 fn push_not_enabled(out: &mut Vec<u8>, event: u64, why: Why) -> Result<(), NoMemory>
-    ensures { OnOk result (out.new.items ≡ out.old.items ++ refusal_text (Refusal.NotEnabled event why)) }
+    ensures { OnOk result (out.new.items ≡ out.old.items ++ event_line event why) }
 {
     push_text(out, b"event ")?;
     push_number(out, event)?;
     push_text(out, b" ")?;
-    push_why(out, why)?;
+    push_text(out, why_word(why))?;
     push_text(out, b"\n")
 }
 
 /// The lines of a refusal.
-#[tactic(auto, unfolding(crate::specs::Texts::refusal_text))]
 pub(crate) fn push_refusal(out: &mut Vec<u8>, refusal: &Refusal) -> Result<(), NoMemory>
     ensures { OnOk result (out.new.items ≡ out.old.items ++ refusal_text refusal.now) }
 {

@@ -1,58 +1,80 @@
 //! Commands from words, and the lines of reports. The names were computed by an independent SHA-256.
 
-use crate::{Command, Report, WordsError, print_report, read_words, status};
+use crate::{Command, Report, Verb, WordsError, print_report, read_words, status};
 use ms_base::{ClientId, Items, Name, NoMemory, Quantity, ServiceId};
-use ms_record::{Entry, Place, Plan, PlanRow, Refusal, Why};
+use ms_record::{Entry, Place, Plan, PlanRow, Refusal, Why, wrong_line};
 use std::alloc::Global;
 use std::test::*;
 
-fn words_of(alloc: Global, words: &[&str]) -> Result<Vec<String>, NoMemory> {
+/// Words that are written with `|` between them; an empty text has none.
+fn words_of(alloc: Global, text: &str) -> Result<Vec<String>, NoMemory> {
     let mut all = Vec::new(alloc);
-    for word in words {
+    if text.is_empty() {
+        return Ok(all);
+    }
+    for word in text.split('|') {
         all.push(String::from_str(alloc, word)?)?;
     }
     Ok(all)
 }
 
+/// Whether the words are the command of this verb on this file.
+fn is_command(alloc: Global, text: &str, verb: Verb, name: &str) -> bool {
+    let Ok(words) = words_of(alloc, text) else {
+        return false;
+    };
+    let (read, file) = match read_words(alloc, &words) {
+        Ok(Command::Audit { file }) => (Verb::Audit, file),
+        Ok(Command::Drill { file }) => (Verb::Drill, file),
+        Ok(Command::Hash { file }) => (Verb::Hash, file),
+        Err(_) => return false,
+    };
+    read == verb && file.as_slice() == name.as_bytes()
+}
+
 #[test]
 fn audit_takes_one_file(rt: HostRuntime) {
-    let words = words_of(rt.alloc(), &["audit", "a b"]).expect(&rt, "memory");
-    let Ok(Command::Audit { file }) = read_words(rt.alloc(), &words) else {
-        panic!(rt; "these words are a command");
-    };
-    assert_eq!(rt; file.as_slice(), b"a b".as_slice());
+    assert!(rt; is_command(rt.alloc(), "audit|a b", Verb::Audit, "a b"));
+}
+
+#[test]
+fn drill_takes_one_file(rt: HostRuntime) {
+    assert!(rt; is_command(rt.alloc(), "drill|a", Verb::Drill, "a"));
 }
 
 #[test]
 fn hash_takes_one_file(rt: HostRuntime) {
-    let words = words_of(rt.alloc(), &["hash", "/a/b"]).expect(&rt, "memory");
-    let Ok(Command::Hash { file }) = read_words(rt.alloc(), &words) else {
-        panic!(rt; "these words are a command");
-    };
-    assert_eq!(rt; file.as_slice(), b"/a/b".as_slice());
+    assert!(rt; is_command(rt.alloc(), "hash|/a/b", Verb::Hash, "/a/b"));
+}
+
+/// Words outside the grammar.
+const NO_COMMANDS: [&str; 13] = [
+    "",
+    "audit",
+    "audit|-x",
+    "audit|a|b",
+    "Audit|a",
+    "audit |a",
+    "push|ann|--lanes|5",
+    "hash",
+    "drill",
+    "drill|-a",
+    "hash|-",
+    "hashes|a",
+    "|",
+];
+
+fn is_usage(alloc: Global, text: &str) -> bool {
+    match words_of(alloc, text) {
+        Ok(words) => matches!(read_words(alloc, &words), Err(WordsError::Usage)),
+        Err(_) => false,
+    }
 }
 
 #[test]
 fn words_outside_the_grammar(rt: HostRuntime) {
-    let none: [&str; 0] = [];
-    for words in [
-        none.as_slice(),
-        &["audit"],
-        &["audit", "-x"],
-        &["audit", "a", "b"],
-        &["Audit", "a"],
-        &["audit ", "a"],
-        &["push", "ann", "--lanes", "5"],
-        &["hash"],
-        &["drill"],
-        &["drill", "-a"],
-        &["hash", "-"],
-        &["hash", "a", "b"],
-        &["hashes", "a"],
-        &[""],
-    ] {
-        let words = words_of(rt.alloc(), words).expect(&rt, "memory");
-        assert!(rt; matches!(read_words(rt.alloc(), &words), Err(WordsError::Usage)));
+    for text in NO_COMMANDS {
+        assert!(rt; is_usage(rt.alloc(), text));
     }
 }
 
@@ -126,59 +148,53 @@ fn lines_of_a_tree(rt: HostRuntime) {
     assert!(rt; tells(rt.alloc(), &report, lines, 0));
 }
 
+/// The line and the status of each refusal below.
+const REFUSALS: [(&str, u8); 8] = [
+    ("usage\n", 1),
+    ("bad config 5\n", 2),
+    ("bad input 4294967295\n", 2),
+    ("fault keep\n", 3),
+    ("no memory\n", 8),
+    (
+        "split 2 1111111111111111111111111111111111111111111111111111111111111111 \
+        abababababababababababababababababababababababababababababababab\n",
+        10,
+    ),
+    ("limit input 16777217\n", 11),
+    ("event 18 turned\n", 16),
+];
+
+fn refusal_at(place: usize) -> Refusal {
+    match place {
+        0 => Refusal::Usage,
+        1 => wrong_line(Place::Config, 5),
+        2 => wrong_line(Place::Input, 4_294_967_295),
+        3 => Refusal::OutsideFault { place: Place::Keep },
+        4 => Refusal::NoMemory,
+        5 => Refusal::Split {
+            position: 2,
+            first: Name([17; 32]),
+            second: Name([171; 32]),
+        },
+        6 => Refusal::Limit {
+            what: Quantity::Input,
+            value: 16_777_217,
+        },
+        _ => Refusal::NotEnabled {
+            event: 18,
+            why: Why::Turned,
+        },
+    }
+}
+
+fn refusal_tells(alloc: Global, place: usize, told: (&str, u8)) -> bool {
+    let refusal = refusal_at(place);
+    tells(alloc, &Report::Refused { refusal }, told.0, told.1)
+}
+
 #[test]
 fn lines_of_refusals(rt: HostRuntime) {
-    for (refusal, lines, wanted) in [
-        (Refusal::Usage, "usage\n", 1),
-        (
-            Refusal::BadInput {
-                place: Place::Config,
-                line: 5,
-            },
-            "bad config 5\n",
-            2,
-        ),
-        (
-            Refusal::BadInput {
-                place: Place::Input,
-                line: 4_294_967_295,
-            },
-            "bad input 4294967295\n",
-            2,
-        ),
-        (
-            Refusal::OutsideFault { place: Place::Keep },
-            "fault keep\n",
-            3,
-        ),
-        (Refusal::NoMemory, "no memory\n", 8),
-        (
-            Refusal::Split {
-                position: 2,
-                first: Name([17; 32]),
-                second: Name([171; 32]),
-            },
-            "split 2 1111111111111111111111111111111111111111111111111111111111111111 \
-            abababababababababababababababababababababababababababababababab\n",
-            10,
-        ),
-        (
-            Refusal::Limit {
-                what: Quantity::Input,
-                value: 16_777_217,
-            },
-            "limit input 16777217\n",
-            11,
-        ),
-        (
-            Refusal::NotEnabled {
-                event: 18,
-                why: Why::Turned,
-            },
-            "event 18 turned\n",
-            16,
-        ),
-    ] {
-        assert!(rt; tells(rt.alloc(), &Report::Refused { refusal }, lines, wanted));
+    for place in 0..REFUSALS.len() {
+        assert!(rt; refusal_tells(rt.alloc(), place, REFUSALS[place]));
     }
 }
