@@ -1,6 +1,7 @@
 -- How what calls on links leave goes together: calls in turn, answers seen from an earlier moment, links inside links.
-use Rattle.std.proofs.Common.{◌≡◌, ℕ, ◌<◌, ◌≤◌, ◌==◌, Bool, true, false, List, [], ◌∷◌, ◌++◌, length, Option, Some, None, Result, Ok, Err, IfSome, refl, sym, ap, ◌∙◌, subst, arith, slice_get, Contains, drop}
+use Rattle.std.proofs.Common.{◌≡◌, ℕ, ◌≤◌, ◌==◌, Bool, true, false, List, [], ◌∷◌, ◌++◌, length, Option, Some, None, Result, Ok, Err, IfSome, refl, sym, ap, ◌∙◌, subst, arith, slice_get, Contains, drop}
 use Rattle.std.proofs.lemmas.List.Elements.{filter_map-append, Contains-append_left, Contains-append_right}
+use Rattle.std.proofs.lemmas.Bool.Decides.{nat_tests}
 use Rattle.std.specs.Prelude.{if◌then◌else◌}
 use mathlib.Core.List.{IsPrefix}
 use Rattle.ms_base.specs.Counts.{Rose}
@@ -14,10 +15,11 @@ use Rattle.ms_link.specs.declared.fault.LinkError.{LinkError}
 use Rattle.ms_link.specs.declared.fault.LinkError.TheVariants as errors
 use Rattle.ms_record.specs.declared.item.Item.{Item}
 use Rattle.ms_record.specs.declared.item.Item.TheVariants.{Log}
+use Rattle.ms_record.specs.declared.log.ListId.{ListId}
 use Rattle.ms_record.specs.declared.log.LogEvent.{LogEvent}
 use Rattle.ms_record.specs.declared.log.LogEvent.TheVariants.{Rec, Put, Drop}
 use Rattle.ms_record.specs.Items.{event_in, events_of}
-use Rattle.ms_record.specs.Logs.{texts_in, HasPut, Stands}
+use Rattle.ms_record.specs.Logs.{texts_in, Stands}
 
 -- ---- calls in turn
 
@@ -251,6 +253,22 @@ texts_grow list log more p = (texts_in list p.0, sym (texts_in-append list log p
 
 pub event_stays : (log more : List LogEvent) (event : LogEvent) → IsPrefix log more → Contains log event → Contains more event
 event_stays log more event p h = subst (λ (l : List LogEvent). Contains l event) p.1 (Contains-append_left log p.0 event h)
+
+first_text : (b : Bool) (text : List ℕ) (texts : List (List ℕ)) → b ≡ true → Contains (if b then text ∷ texts else texts) text
+first_text b text texts is = subst (λ (x : Bool). Contains (if x then text ∷ texts else texts) text) (sym is) (0, omega arith, refl)
+
+test_same : (n : ℕ) → (n == n) ≡ true
+test_same n = grind (arith, nat_tests)
+
+pub added_text : (link : LinkView) (before after : Known Item) (list : ListId) (text : List ℕ) → IsAdded link before after (Rec list text) → Contains (texts_in list.0 (log_known link after)) text
+added_text link before after list text h =
+    let event = Rec list text in
+    let p = get_splits (list_at after.lists link.service) h.place (Log event) h.stands in
+    subst (λ (items : List Item). Contains (texts_in list.0 (events_of items)) text) p.3
+    (subst (λ (log : List LogEvent). Contains (texts_in list.0 log) text) (sym (filter_map-append event_in p.0 (Log event ∷ p.1)))
+    (subst (λ (texts : List (List ℕ)). Contains texts text) (sym (texts_in-append list.0 (events_of p.0) (event ∷ events_of p.1)))
+    (Contains-append_right (texts_in list.0 (events_of p.0)) (texts_in list.0 (event ∷ events_of p.1)) text
+    (first_text (list.0 == list.0) text (texts_in list.0 (events_of p.1)) (test_same list.0)))))
 
 -- ---- a desk's links
 

@@ -8,7 +8,9 @@ ghost use Rattle.ms_ken.specs.Known.{TableId, Known};
 ghost use Rattle.ms_ken.specs.Lists.{Begins};
 ghost use Rattle.ms_link.specs.Links.{LinkView, IsOnBoard, MayAsk, Stays, Learns, IsAdded, log_known, Tells, Puts, Lists, Has, Gets, CountsFailed, PassesOut, Leads, AllLead};
 ghost use Rattle.ms_link.specs.declared.fault.LinkError.{LinkError};
+ghost use Rattle.ms_record.specs.declared.log.ListId.{ListId};
 ghost use Rattle.ms_record.specs.declared.log.LogEvent.{LogEvent};
+ghost use Rattle.ms_record.specs.declared.log.LogEvent.TheVariants.{Rec};
 ghost use Rattle.ms_record.specs.Logs.{texts_in};
 
 use ms_ken::Closed;
@@ -72,6 +74,7 @@ pub fn logs_grow()
     ensures texts { (list : ℕ) (log more : List LogEvent) → IsPrefix log more → IsPrefix (texts_in list log) (texts_in list more) }
     ensures event { (log more : List LogEvent) (event : LogEvent) → IsPrefix log more → Contains log event → Contains more event }
     ensures added { (link : LinkView) (before after : Known Item) (event : LogEvent) → IsAdded link before after event → Contains (log_known link after) event }
+    ensures text { (link : LinkView) (before after : Known Item) (list : ListId) (text : List ℕ) → IsAdded link before after (Rec list text) → Contains (texts_in list.0 (log_known link after)) text }
 {}
 
 /// The links of a desk lead to the services of their places, from call to call.

@@ -1,6 +1,7 @@
 //! The way from a client to a service.
 #![tactic(auto)]
 
+pub mod client;
 mod fault;
 pub mod law;
 mod link;

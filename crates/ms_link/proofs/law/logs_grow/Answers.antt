@@ -1,4 +1,4 @@
-use Rattle.ms_link.specs.Composing.{log_grows, texts_grow, event_stays, added_known}
+use Rattle.ms_link.specs.Composing.{log_grows, texts_grow, event_stays, added_known, added_text}
 use Rattle.ms_link.proofs.law.logs_grow.Goals as goal
 
 pub returns-clause-log : goal.returns-clause-log
@@ -12,3 +12,6 @@ returns-clause-event c = event_stays
 
 pub returns-clause-added : goal.returns-clause-added
 returns-clause-added c = added_known
+
+pub returns-clause-text : goal.returns-clause-text
+returns-clause-text c = added_text
