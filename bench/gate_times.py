@@ -2,7 +2,7 @@
 """Where the gate's time goes: processor seconds by crate, for its proof, its tests and its edits. See bench/gate.sh.
 
 `rt ci` tells no times, so this looks twice a second at the checks that it runs: each names its crate, those of tests have the
-word --test, and those of edits run in a folder that is named after them. What a check uses after the last look at it is not
+word --test, and those of edits run in a folder that is named after them; what a check starts is counted with it. What a check uses after the last look at it is not
 seen, so the sums are a little low.
 """
 import collections
@@ -67,12 +67,13 @@ def watch(top, goes_on):
     used, begun = {}, time.time()
     with contextlib.suppress(KeyboardInterrupt):
         while goes_on():
-            found = processes()
+            found, works = processes(), {}
             for pid in below(top, found):
                 if pid in found:
-                    _, start, seconds = found[pid]
+                    parent, start, seconds = found[pid]
                     earlier = used.get((pid, start), (None, 0))
-                    used[pid, start] = work_of(pid) or earlier[0], seconds
+                    works[pid] = work_of(pid) or earlier[0] or works.get(parent)
+                    used[pid, start] = works[pid], seconds
             time.sleep(0.5)
     sums = collections.defaultdict(lambda: dict.fromkeys(COLUMNS, 0.0))
     for work, seconds in used.values():
