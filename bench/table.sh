@@ -6,5 +6,5 @@ set -euo pipefail
 # shellcheck source=bench/timing.bash
 source "$(dirname "$(realpath "$0")")/timing.bash"
 
-want 0 - "$program" table_tests::largest_table
+"$program" table_tests::largest_table | grep -q "^test table_tests::largest_table \.\.\. ok"
 printf 'largest table: %s ms\n' "$(median 0 "$program" table_tests::largest_table)"
