@@ -6,5 +6,6 @@ set -euo pipefail
 # shellcheck source=bench/timing.bash
 source "$(dirname "$(realpath "$0")")/timing.bash"
 
-"$program" tests::three_folders_of_100_000_files | grep -q "^test tests::three_folders_of_100_000_files \.\.\. ok"
+"$program" tests::three_folders_of_100_000_files >passed
+grep -q "^test tests::three_folders_of_100_000_files \.\.\. ok" passed
 printf 'three folders of 100,000 files: %s ms\n' "$(median 0 "$program" tests::three_folders_of_100_000_files)"

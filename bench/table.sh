@@ -6,5 +6,6 @@ set -euo pipefail
 # shellcheck source=bench/timing.bash
 source "$(dirname "$(realpath "$0")")/timing.bash"
 
-"$program" table_tests::largest_table | grep -q "^test table_tests::largest_table \.\.\. ok"
+"$program" table_tests::largest_table >passed
+grep -q "^test table_tests::largest_table \.\.\. ok" passed
 printf 'largest table: %s ms\n' "$(median 0 "$program" table_tests::largest_table)"
