@@ -4,6 +4,7 @@ use Rattle.std.specs.Prelude.{◌==◌, ◌&&◌, not, IsTrue, ◌↔◌}
 use Rattle.std.specs.List.{list_all}
 use Rattle.std.proofs.lemmas.Bool.{leb-true, le-leb, eqb-true}
 use Rattle.std.proofs.lemmas.List.Sums.{AllPass-from_list_all, list_all-from_AllPass}
+use Rattle.ms_base.specs.declared.limits.TheConstants.{CLIENT_LABEL_BYTES}
 use Rattle.ms_text.specs.Labels.{IsClientLabel, is_label, is_label_byte}
 
 both : (a b : Bool) → (a && b) ≡ true → (a ≡ true) × (b ≡ true)
@@ -27,10 +28,10 @@ unfolding is_label
 label_passes text h =
     let a = both _ (list_all is_label_byte text) h in
     let b = both _ (not (get_or text 0 0 == 45)) a.0 in
-    let c = both (nat_le 1 (length text)) (nat_le (length text) 24) b.0 in
+    let c = both (nat_le 1 (length text)) (nat_le (length text) CLIENT_LABEL_BYTES) b.0 in
     record {
       some = leb-true 1 (length text) c.0;
-      few = leb-true (length text) 24 c.1;
+      few = leb-true (length text) CLIENT_LABEL_BYTES c.1;
       first = λ e. not_true (get_or text 0 0 == 45) b.1 (eq-eqb (get_or text 0 0) 45 e);
       bytes = AllPass-from_list_all is_label_byte text a.1;
     }
@@ -40,7 +41,7 @@ unfolding is_label
 label_keeps text h =
     joined _ (list_all is_label_byte text)
     (joined _ (not (get_or text 0 0 == 45))
-    (joined (nat_le 1 (length text)) (nat_le (length text) 24) (le-leb 1 (length text) h.some) (le-leb (length text) 24 h.few))
+    (joined (nat_le 1 (length text)) (nat_le (length text) CLIENT_LABEL_BYTES) (le-leb 1 (length text) h.some) (le-leb (length text) CLIENT_LABEL_BYTES h.few))
     (true_unless (get_or text 0 0 == 45) (λ e. h.first (eqb-true (get_or text 0 0) 45 e))))
     (list_all-from_AllPass is_label_byte text h.bytes)
 

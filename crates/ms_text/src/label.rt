@@ -5,11 +5,9 @@ ghost use Rattle.std.specs.List.{list_all};
 ghost use Rattle.ms_text.specs.Labels.{IsClientLabel, is_label, is_label_byte as may_stand, label_if};
 
 use ms_base::NoMemory;
+use ms_base::limits::CLIENT_LABEL_BYTES;
 use std::alloc::Global;
 use std::marker::Model;
-
-/// The greatest number of bytes.
-const MOST_LABEL: usize = 24;
 
 /// Whether a service or a client may have this label: 1 to 24 of `a-z0-9_-`, the first not `-`.
 ///
@@ -19,7 +17,10 @@ pub fn is_client_label(text: &[u8]) -> bool
     ensures exact { IsTrue result ↔ IsClientLabel text.now }
     ensures test { result ≡ is_label text.now }
 {
-    !text.is_empty() && text.len() <= MOST_LABEL && text[0] != b'-' && are_label_bytes(text)
+    !text.is_empty()
+        && text.len() as u64 <= CLIENT_LABEL_BYTES
+        && text[0] != b'-'
+        && are_label_bytes(text)
 }
 
 fn are_label_bytes(text: &[u8]) -> bool

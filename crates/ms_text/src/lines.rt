@@ -28,6 +28,7 @@ pub fn next_line(text: &[u8]) -> (&[u8], &[u8])
 }
 
 /// The lines of a text in their order, counted from 1.
+#[derive(Drop)]
 pub struct Lines<'a> {
     rest: &'a [u8],
     number: u32,

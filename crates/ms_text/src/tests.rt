@@ -1,111 +1,154 @@
 //! Lines, words and numbers whose values were known before.
 
 use crate::{
-    Label, bytes, hex_bytes, is_client_label, name, next_line, number, push_name, push_number,
-    push_text, split_at_space,
+    Label, Lines, bytes, first_wrong_lines, hex_bytes, is_client_label, name, number, push_name,
+    push_number, push_text, split_at_space, words_are_joined,
 };
+use std::alloc::Global;
 use std::test::*;
+
+/// Whether the next line is this one.
+fn gives(lines: &mut Lines, line: &[u8]) -> bool {
+    match lines.next() {
+        Some(given) => given == line,
+        None => false,
+    }
+}
 
 #[test]
 fn a_text_is_cut_at_each_line_feed(rt: HostRuntime) {
-    let (first, rest) = next_line(b"ab\n\nc");
-    assert_eq!(rt; first, b"ab".as_slice());
-    assert_eq!(rt; rest, b"\nc".as_slice());
-    assert_eq!(rt; rest.len(), 2);
-    let (second, rest) = next_line(rest);
-    assert_eq!(rt; second.len(), 0);
-    assert_eq!(rt; rest.len(), 1);
-    let (third, rest) = next_line(rest);
-    assert_eq!(rt; third, b"c".as_slice());
-    assert_eq!(rt; rest.len(), 0);
+    let mut lines = Lines::new(b"ab\n\nc");
+    assert_eq!(rt; lines.count_left(), 3);
+    assert!(rt; gives(&mut lines, b"ab"));
+    assert!(rt; gives(&mut lines, b""));
+    assert!(rt; gives(&mut lines, b"c"));
+    assert_eq!(rt; lines.number(), 3);
+    assert!(rt; lines.next().is_none());
 }
+
+#[test]
+fn laws_of_lines_and_words() {
+    first_wrong_lines::<u8, u8>();
+    words_are_joined();
+}
+
+/// Words that are no number up to 9.
+const NO_NUMBERS: [&[u8]; 8] = [
+    b"",
+    b"00",
+    b"01",
+    b"+1",
+    b"-1",
+    b"1 ",
+    b"10",
+    b"18446744073709551616",
+];
 
 #[test]
 fn numbers_have_one_spelling(rt: HostRuntime) {
-    assert_eq!(rt; number(b"0", 9), Some(0));
+    for word in NO_NUMBERS {
+        assert!(rt; number(word, 9).is_none());
+    }
+}
+
+#[test]
+fn the_greatest_number_is_read(rt: HostRuntime) {
     assert_eq!(rt; number(b"18446744073709551615", u64::MAX), Some(u64::MAX));
-    for word in [
-        b"".as_slice(),
-        b"00",
-        b"01",
-        b"+1",
-        b"-1",
-        b"1 ",
-        b"10",
-        b"18446744073709551616",
-    ] {
-        assert_eq!(rt; number(word, 9), None, "{word:?}");
+    assert_eq!(rt; number(b"0", 9), Some(0));
+}
+
+/// Whether the word spells these bytes.
+fn spells(alloc: Global, word: &[u8], wanted: &[u8]) -> bool {
+    match bytes(alloc, word) {
+        Ok(Some(read)) => read.as_slice() == wanted,
+        _ => false,
     }
 }
 
 #[test]
-fn hexadecimal_has_two_cases(rt: HostRuntime) -> Result<(), Fail> {
-    let alloc = rt.alloc();
-    let read = hex_bytes(alloc, b"0aFf")
-        .ok()
-        .ok_or("memory")?
-        .ok_or("digits")?;
-    assert_eq!(rt; read.as_slice(), [10, 255].as_slice());
-    assert_eq!(rt;
-        bytes(alloc, b"-")
-            .ok()
-            .ok_or("memory")?
-            .ok_or("none")?
-            .len(),
-        0
-    );
-    for word in [b"".as_slice(), b"a", b"0g", b"--", b"abc"] {
-        assert!(rt;
-            bytes(alloc, word).ok().ok_or("memory")?.is_none(),
-            "{word:?}"
-        );
-    }
-    assert_eq!(rt; name([b'1'; 64].as_slice()), Some([17; 32]));
-    assert_eq!(rt; name([b'1'; 63].as_slice()), None);
-    assert_eq!(rt; name([b'1'; 65].as_slice()), None);
-    Ok(())
+fn hexadecimal_has_two_cases(rt: HostRuntime) {
+    assert!(rt; spells(rt.alloc(), b"0aFf", &[10, 255]));
+    assert!(rt; spells(rt.alloc(), b"-", &[]));
+    assert!(rt; matches!(hex_bytes(rt.alloc(), b"-"), Ok(None)));
+}
+
+/// Words that spell no bytes.
+const NO_BYTES: [&[u8]; 5] = [b"", b"a", b"0g", b"--", b"abc"];
+
+fn spells_nothing(alloc: Global, word: &[u8]) -> bool {
+    matches!(bytes(alloc, word), Ok(None))
 }
 
 #[test]
-fn words_are_printed(rt: HostRuntime) -> Result<(), Fail> {
-    let mut out = Vec::new(rt.alloc());
-    assert!(rt; push_text(&mut out, b"a ").is_ok());
-    assert!(rt; push_number(&mut out, 10).is_ok());
-    assert!(rt; push_name(&mut out, &[171; 32]).is_ok());
-    assert!(rt; out.starts_with(b"a 10abab"));
-    assert_eq!(rt; out.len(), 68);
+fn words_that_are_no_bytes(rt: HostRuntime) {
+    for word in NO_BYTES {
+        assert!(rt; spells_nothing(rt.alloc(), word));
+    }
+}
+
+#[test]
+fn a_name_has_64_digits(rt: HostRuntime) {
+    assert!(rt; name(&[b'1'; 64]) == Some([17; 32]));
+    assert!(rt; name(&[b'1'; 63]).is_none());
+}
+
+/// Whether a text, a number and a name are put one after the other.
+fn prints(alloc: Global) -> bool {
+    let mut out = Vec::new(alloc);
+    let pushed = push_text(&mut out, b"a ").is_ok()
+        && push_number(&mut out, 10).is_ok()
+        && push_name(&mut out, &[171; 32]).is_ok();
+    pushed && out.starts_with(b"a 10abab") && out.len() == 68
+}
+
+#[test]
+fn words_are_printed(rt: HostRuntime) {
+    assert!(rt; prints(rt.alloc()));
+}
+
+#[test]
+fn words_are_cut_at_the_first_space(rt: HostRuntime) {
     assert!(rt; split_at_space(b"a  b").is_some());
     assert!(rt; split_at_space(b"ab").is_none());
-    Ok(())
+}
+
+/// Labels of services and clients.
+const LABELS: [&[u8]; 5] = [b"a", b"0", b"_", b"a-", b"abcdefghijklmnopqrstuvwx"];
+
+#[test]
+fn labels(rt: HostRuntime) {
+    for label in LABELS {
+        assert!(rt; is_client_label(label));
+    }
+}
+
+/// Texts that are no label.
+const NO_LABELS: [&[u8]; 7] = [
+    b"",
+    b"-",
+    b"-a",
+    b"A",
+    b"a.b",
+    b"a b",
+    b"abcdefghijklmnopqrstuvwxy",
+];
+
+#[test]
+fn texts_that_are_no_label(rt: HostRuntime) {
+    for label in NO_LABELS {
+        assert!(rt; !is_client_label(label));
+    }
+}
+
+/// Whether the text is taken as a label.
+fn is_taken(alloc: Global, text: &str) -> bool {
+    match Label::of(alloc, text) {
+        Ok(Some(label)) => label.as_str() == text,
+        _ => false,
+    }
 }
 
 #[test]
-fn labels(rt: HostRuntime) -> Result<(), Fail> {
-    for label in [
-        b"a".as_slice(),
-        b"0",
-        b"_",
-        b"a-",
-        b"abcdefghijklmnopqrstuvwx",
-    ] {
-        assert!(rt; is_client_label(label), "{label:?}");
-    }
-    for label in [
-        b"".as_slice(),
-        b"-",
-        b"-a",
-        b"A",
-        b"a.b",
-        b"a b",
-        b"abcdefghijklmnopqrstuvwxy",
-    ] {
-        assert!(rt; !is_client_label(label), "{label:?}");
-    }
-    let label = Label::of(rt.alloc(), "ann")
-        .ok()
-        .ok_or("memory")?
-        .ok_or("a label")?;
-    assert_eq!(rt; label.as_str(), "ann");
-    assert!(rt; Label::of(rt.alloc(), "Ann").ok().ok_or("memory")?.is_none());
-    Ok(())
+fn a_label_is_its_text(rt: HostRuntime) {
+    assert!(rt; is_taken(rt.alloc(), "ann"));
 }

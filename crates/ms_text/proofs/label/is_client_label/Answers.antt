@@ -12,5 +12,5 @@ returns-then-text-ne45 c =
 pub returns-else-text-ne45 : goal.returns-else-text-ne45
 unfolding is_label
 returns-else-text-ne45 c =
-    let test : c.if-text-le-MOST_LABEL.value ≡ is_label c.args.text.now = search rules in
+    let test : c.if-text-le-CLIENT_LABEL_BYTES.value ≡ is_label c.args.text.now = search rules in
     record { exact = label_decided _ c.args.text.now test; test = test }
