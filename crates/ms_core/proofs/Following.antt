@@ -1,5 +1,5 @@
 -- Which items may follow what is known.
-use Rattle.std.proofs.Common.{◌≡◌, ◌≢◌, ℕ, ◌<◌, List, [], ◌∷◌, ◌++◌, Some, inl, inr, ⊎_elim, refl, sym, ap, ◌∙◌, subst, slice_get, length, replicate, arith}
+use Rattle.std.proofs.Common.{◌≡◌, ◌≢◌, ℕ, zero, suc, ◌<◌, ◌≤◌, List, [], ◌∷◌, ◌++◌, Some, ◌⊎◌, inl, inr, ⊎_elim, refl, sym, ap, ◌∙◌, subst, slice_get, length, replicate, arith}
 use Rattle.std.proofs.lemmas.List.{append-nil, length-replicate}
 use Rattle.std.proofs.lemmas.List.Elements.{filter_map-append}
 use Rattle.std.specs.List.{filter_map}
@@ -7,7 +7,9 @@ use mathlib.Core.List.{IsPrefix}
 use Rattle.ms_core.proofs.Places.{same_or_not}
 use Rattle.ms_core.proofs.Telling.{tells}
 use Rattle.ms_core.specs.Closing.{support_stays}
+use Rattle.ms_core.specs.Asking.{MayAsk, MayOffer}
 use Rattle.ms_core.specs.Valid.{IsBacked}
+use Rattle.std.proofs.lemmas.Bool.{cases_lt}
 use Rattle.ms_core.specs.Views.{View, configuration, owner_of_client, log_in, offers_told, votes_told, SupportsEvent, SupportsOffer, IsSupported, TellsSetting, IsClosed}
 use Rattle.ms_ken.specs.Lists.{list_at, Begins, with_item, MayFollow}
 use Rattle.ms_ken.specs.Prefixes.{prefix_length}
@@ -51,35 +53,30 @@ tells_item setting view owner item lt other h new = record {
 
 -- ---- what another view knows of the configuration
 
-untold_later : (view more : View) → list_at view configuration ≡ Untold ∷ [] → Begins view more → IsClosed more → list_at more configuration ≡ Untold ∷ []
-untold_later view more untold begins (inl none) =
-    absurd (omega (arith, ap (λ (l : List Item). length l) untold, ap (λ (l : List Item). length l) (none configuration), prefix_length (list_at view configuration) (list_at more configuration) (begins configuration)))
-untold_later view more untold begins (inr (inl same)) = same
-untold_later view more untold begins (inr (inr told)) =
-    absurd (let p : IsPrefix (Untold ∷ []) (Told told.0 ∷ []) = subst (λ (q : List Item × List Item). IsPrefix q.0 q.1) (λ i. (untold i, told.1.alone i)) (begins configuration) in
-    let e = p.1 in cc (e))
+alone_same : (a b : Item) → IsPrefix (a ∷ []) (b ∷ []) → a ≡ b
+alone_same a b p = let e = p.1 in cc (e)
 
-told_later : (view more : View) (setting : Setting) → list_at view configuration ≡ Told setting ∷ [] → Begins view more → IsClosed more → list_at more configuration ≡ Told setting ∷ []
-told_later view more setting told begins (inl none) =
-    absurd (omega (arith, ap (λ (l : List Item). length l) told, ap (λ (l : List Item). length l) (none configuration), prefix_length (list_at view configuration) (list_at more configuration) (begins configuration)))
-told_later view more setting told begins (inr (inl untold)) =
-    absurd (let p : IsPrefix (Told setting ∷ []) (Untold ∷ []) = subst (λ (q : List Item × List Item). IsPrefix q.0 q.1) (λ i. (told i, untold i)) (begins configuration) in
-    let e = p.1 in cc (e))
-told_later view more setting told begins (inr (inr other)) =
-    let p : IsPrefix (Told setting ∷ []) (Told other.0 ∷ []) = subst (λ (q : List Item × List Item). IsPrefix q.0 q.1) (λ i. (told i, other.1.alone i)) (begins configuration) in
-    let same : Told setting ≡ Told other.0 = (let e = p.1 in cc (e)) in
-    other.1.alone ∙ ap (λ (x : Item). x ∷ []) (sym same)
+-- an item that is alone there stays alone
+pub alone_later : (view more : View) (item : Item) → list_at view configuration ≡ item ∷ [] → Begins view more → IsClosed more → list_at more configuration ≡ item ∷ []
+alone_later view more item alone begins (inl none) =
+    absurd (omega (arith, ap (λ (l : List Item). length l) alone, ap (λ (l : List Item). length l) (none configuration), prefix_length (list_at view configuration) (list_at more configuration) (begins configuration)))
+alone_later view more item alone begins (inr (inl untold)) =
+    let same = alone_same item Untold (subst (λ (q : List Item × List Item). IsPrefix q.0 q.1) (λ i. (alone i, untold i)) (begins configuration)) in
+    untold ∙ ap (λ (x : Item). x ∷ []) (sym same)
+alone_later view more item alone begins (inr (inr told)) =
+    let same = alone_same item (Told told.0) (subst (λ (q : List Item × List Item). IsPrefix q.0 q.1) (λ i. (alone i, told.1.alone i)) (begins configuration)) in
+    told.1.alone ∙ ap (λ (x : Item). x ∷ []) (sym same)
 
 -- where nothing is claimed, any item but the configuration's may follow
 pub untold_may_follow : (view : View) (owner : ℕ) (item : Item) → list_at view configuration ≡ Untold ∷ [] → owner ≢ configuration → MayFollow IsClosed (length view) view owner item
 untold_may_follow view owner item untold other more wide closed begins =
-    inr (inl (item_else more owner item configuration (λ e. other (sym e)) ∙ untold_later view more untold begins closed))
+    inr (inl (item_else more owner item configuration (λ e. other (sym e)) ∙ alone_later view more Untold untold begins closed))
 
 -- where a setting is told, an item may follow that is supported behind whatever is known by then
 pub told_may_follow : (view : View) (setting : Setting) (owner : ℕ) (item : Item) → list_at view configuration ≡ Told setting ∷ [] → owner < length view → owner ≢ configuration
     → ((more : View) → Begins view more → IsSupported setting more owner (list_at more owner) item) → MayFollow IsClosed (length view) view owner item
 told_may_follow view setting owner item told lt other supports more wide closed begins =
-    let h = tells more setting closed (told_later view more setting told begins closed) in
+    let h = tells more setting closed (alone_later view more (Told setting) told begins closed) in
     inr (inr (setting, tells_item setting more owner item (subst (λ n. owner < n) (sym wide) lt) other h (supports more begins)))
 
 -- an event of a service that the view supports may follow
@@ -196,3 +193,49 @@ pub offer_closed : (view : View) (setting : Setting) (client position : ℕ) (ba
 offer_closed view setting client position ballot entry closed told low lt supports =
     let h = tells view setting closed told in
     inr (inr (setting, tells_item setting view (owner_of_client client) (Offer (Accept position ballot entry)) lt (λ e. absurd (omega (arith, e, low, h.ranges.few_clients))) h (inr (client, refl, low, supports))))
+
+-- ---- one condition for boards that tell a setting and for those that claim nothing
+
+pub may_ask : (view : View) (service : ℕ) (event : LogEvent) → service < length view → MayAsk view service event → MayFollow IsClosed (length view) view service (Log event)
+may_ask view service event lt h = by h.closed
+  where
+    by : IsClosed view → MayFollow IsClosed (length view) view service (Log event)
+    by (inl none) = absurd (h.begun (none configuration))
+    by (inr (inl untold)) = untold_may_follow view service (Log event) untold (λ e. absurd (omega (arith, e, h.service_is)))
+    by (inr (inr told)) =
+        let s = h.supported told.0 told.1.alone in
+        event_may_follow view told.0 service event told.1.alone told.1.ranges s.0 lt s.1
+
+pub may_offer : (view : View) (client position : ℕ) (ballot : Ballot) (entry : Entry) → owner_of_client client < length view → MayOffer view client position ballot entry
+    → IsClosed (with_item view (owner_of_client client) (Offer (Accept position ballot entry)))
+may_offer view client position ballot entry lt h = by h.closed
+  where
+    by : IsClosed view → IsClosed (with_item view (owner_of_client client) (Offer (Accept position ballot entry)))
+    by (inl none) = absurd (h.begun (none configuration))
+    by (inr (inl untold)) = inr (inl (item_else view (owner_of_client client) (Offer (Accept position ballot entry)) configuration (λ e. absurd (omega (arith, e, h.client_is))) ∙ untold))
+    by (inr (inr told)) =
+        let s = h.supported told.0 told.1.alone in
+        offer_closed view told.0 client position ballot entry h.closed told.1.alone s.0 lt s.1
+
+-- ---- what the configuration tells
+
+pub something_told : (view : View) (owner : ℕ) → IsClosed view → list_at view owner ≢ []
+    → (list_at view configuration ≡ Untold ∷ []) ⊎ ((setting : Setting) × (list_at view configuration ≡ Told setting ∷ []) × IsSetting setting)
+something_told view owner (inl none) some = absurd (some (none owner))
+something_told view owner (inr (inl untold)) some = inl untold
+something_told view owner (inr (inr told)) some = inr (told.0, told.1.alone, told.1.ranges)
+
+list_past : (view : View) (owner : ℕ) → length view ≤ owner → list_at view owner ≡ []
+list_past [] owner past = refl
+list_past (items ∷ view) zero past = absurd (omega (arith, past))
+list_past (items ∷ view) (suc owner) past = list_past view owner (omega (arith, past))
+
+wide_of : (view : View) (item : Item) → list_at view configuration ≡ item ∷ [] → configuration < length view
+wide_of view item alone =
+    elim (cases_lt configuration (length view)) [
+      | inl less ↦ less
+      | inr past ↦ absurd (let q : item ∷ [] ≡ [] = sym alone ∙ list_past view configuration past in cc (q))
+    ]
+
+pub told_wide : (view : View) (owner : ℕ) → IsClosed view → list_at view owner ≢ [] → configuration < length view
+told_wide view owner closed some = elim (something_told view owner closed some) [ inl untold ↦ wide_of view Untold untold | inr told ↦ wide_of view (Told told.0) told.1 ]

@@ -9,3 +9,6 @@ pub mod Following
 pub mod EmptyVersion
 pub mod OneService
 pub mod FirstBids
+pub mod Spelled
+pub mod Behind
+pub mod Left

@@ -43,6 +43,18 @@ module _ {X Y : Type 0} (f : X → Option Y) where
   from_item [] i y h = absurd (let q : None ≡ Some y = h in cc)
   from_item (x ∷ xs) i y h = from_step x xs y (f x) refl (λ i h. from_item xs i y h) i h
 
+  into_step : (o : Option Y) (ys : List Y) (y : Y) → (j : ℕ) × (slice_get ys j ≡ Some y) → (j : ℕ) × (slice_get (cons_option o ys) j ≡ Some y)
+  into_step None ys y h = h
+  into_step (Some v) ys y h = (suc h.0, h.1)
+
+  -- what comes from an item of the list
+  pub into_item : (xs : List X) (i : ℕ) (x : X) (y : Y) → slice_get xs i ≡ Some x → f x ≡ Some y → (j : ℕ) × (slice_get (filter_map f xs) j ≡ Some y)
+  into_item [] i x y at is = absurd (let q : None ≡ Some x = at in cc)
+  into_item (first ∷ xs) zero x y at is =
+      let same : first ≡ x = (let q : Some first ≡ Some x = at in cc) in
+      (zero, ap (λ (o : Option Y). slice_get (cons_option o (filter_map f xs)) zero) (ap f same ∙ is))
+  into_item (first ∷ xs) (suc i) x y at is = into_step (f first) (filter_map f xs) y (into_item xs i x y at is)
+
 pub at_contains : {X : Type 0} (xs : List X) (i : ℕ) (x : X) → slice_get xs i ≡ Some x → Contains xs x
 at_contains xs i x h = (i, slice_get_within xs i x h, get_or_from_slice_get xs i x x h)
 

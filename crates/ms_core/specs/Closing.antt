@@ -49,7 +49,7 @@ whole_more has more plan version goes h = record {
   are = h.are;
 }
 
-whole_stays : (old new : ℕ → List LogEvent) (plan : PlanView) (version : Name) → LogsGrow old new → IsWhole old plan version → IsWhole new plan version
+pub whole_stays : (old new : ℕ → List LogEvent) (plan : PlanView) (version : Name) → LogsGrow old new → IsWhole old plan version → IsWhole new plan version
 whole_stays old new plan version grows h =
     whole_more (λ s name. HasPut (old s) plan.generation name) (λ s name. HasPut (new s) plan.generation name) plan version (λ s name there. put_stays old new s plan.generation name grows there) h
 
@@ -102,7 +102,7 @@ empty_second xs ys wide none =
     (λ k. list_at-longer_lists xs ys k ∙ (ap (λ (l : List Item). longer (list_at xs k) l) (none k) ∙ longer_first (list_at xs k) [] (omega arith)))
 
 -- the configuration tells one item in both
-one_item : (xs ys : View) (a b : Item) → Agree xs ys → list_at xs configuration ≡ a ∷ [] → list_at ys configuration ≡ b ∷ [] → a ≡ b
+pub one_item : (xs ys : View) (a b : Item) → Agree xs ys → list_at xs configuration ≡ a ∷ [] → list_at ys configuration ≡ b ∷ [] → a ≡ b
 one_item xs ys a b agree x y =
     ⊎_elim
     (λ p. alone a b (subst (λ (q : List Item × List Item). IsPrefix q.0 q.1) (λ i. (x i, y i)) p))
@@ -118,7 +118,7 @@ one_longer xs ys a x y = list_at-longer_lists xs ys configuration ∙ longer_by 
 told_apart : (setting : Setting) → Untold ≡ Told setting → ⊥
 told_apart setting e = cc e
 
-told_same : (one other : Setting) → Told one ≡ Told other → one ≡ other
+pub told_same : (one other : Setting) → Told one ≡ Told other → one ≡ other
 told_same one other e = cc e
 
 told_of_longer : (setting : Setting) (xs ys : View) → TellsSetting xs setting → TellsSetting ys setting → Agree xs ys → TellsSetting (longer_lists xs ys) setting

@@ -5,3 +5,4 @@ pub mod Growth
 pub mod Views
 pub mod Closing
 pub mod FirstBids
+pub mod Asking

@@ -18,6 +18,7 @@ use Rattle.ms_record.specs.declared.log.LogEvent.TheVariants.{Rec, Put, Drop}
 use Rattle.ms_record.specs.declared.record.Record.{Record}
 use Rattle.ms_record.specs.declared.record.Record.TheVariants.{Prepare, Accept}
 use Rattle.ms_record.specs.declared.setting.Setting.{Setting}
+use Rattle.ms_record.specs.Chains.{LinksBehind}
 use Rattle.ms_record.specs.Items.{events_of, offers_of_items}
 use Rattle.ms_record.specs.Logs.{HasPut, Stands}
 use Rattle.ms_record.specs.Offers.{IsOffered, IsJustified}
@@ -77,6 +78,11 @@ pub record IsWholeMaster (setting : Setting) (logs : ℕ → List LogEvent) (pos
   pub valid : IsValid setting logs position e
   pub whole : IsWhole logs (plan_behind setting valid.next.members e) e.version
 
+-- the entry links on to the members, and its version is whole under the plan in force behind them and it
+pub record IsNextMaster (setting : Setting) (logs : ℕ → List LogEvent) (members : List Entry) (e : Entry) : Type 0 where
+  pub links : LinksBehind (origin_of setting) members e
+  pub whole : IsWhole logs (plan_behind setting members e) e.version
+
 -- an Accept that a text of a vote list spells was offered
 abbrev pub SupportsVote : (ℕ → List Record) → List ℕ → Type 0
 SupportsVote offers text = (position : ℕ) (ballot : Ballot) (entry : Entry) → record_at text ≡ Some (Accept position ballot entry) → IsOffered offers position ballot entry
@@ -134,3 +140,8 @@ pub record TellsSetting (view : View) (setting : Setting) : Type 0 where
 -- nothing is told; or it is told that nothing is claimed; or a setting is told, and each item is supported
 abbrev pub IsClosed : View → Type 0
 IsClosed view = ((owner : ℕ) → list_at view owner ≡ []) ⊎ ((list_at view configuration ≡ Untold ∷ []) ⊎ ((setting : Setting) × TellsSetting view setting))
+
+-- the view is closed, and a setting is told
+pub record Tells (view : View) (setting : Setting) : Type 0 where
+  pub closed : IsClosed view
+  pub told : list_at view configuration ≡ Told setting ∷ []

@@ -2,6 +2,7 @@
 #![tactic(auto)]
 
 pub mod closing;
+pub mod item_law;
 pub mod view_law;
 pub mod want;
 

@@ -10,7 +10,7 @@ ghost use Rattle.ms_record.specs.declared.item.Item.TheVariants.{Told};
 
 use crate::{MemoryLink, MemoryService};
 use ms_base::{ClientId, Name, ServiceId};
-use ms_core::view_law::may_follow;
+use ms_core::item_law::may_follow;
 use ms_core::{Common, FoldClosed, Know};
 use ms_ken::{Board, Naming};
 use ms_link::{Link, LinkError};

@@ -16,23 +16,23 @@ laws c = record {
   read = c.one_spelling.ensures.again;
 }
 
-pub returns-clause-agrees : goal.returns-clause-agrees
-returns-clause-agrees c = λ view setting closed told. view_agrees (laws c) setting view (tells view setting closed told)
+pub returns-clause-one_master : goal.returns-clause-one_master
+returns-clause-one_master c = λ view setting t. view_agrees (laws c) setting view (tells view setting t.closed t.told)
 
 pub returns-clause-valid : goal.returns-clause-valid
-returns-clause-valid c = λ view setting closed told k e chosen. view_valid setting view (tells view setting closed told) k e chosen
+returns-clause-valid c = λ view setting t k e chosen. view_valid setting view (tells view setting t.closed t.told) k e chosen
 
 pub returns-clause-linked : goal.returns-clause-linked
-returns-clause-linked c = λ view setting closed told i e chosen. view_linked (laws c) setting view (tells view setting closed told) i e chosen
+returns-clause-linked c = λ view setting t i e chosen. view_linked (laws c) setting view (tells view setting t.closed t.told) i e chosen
 
 pub returns-clause-chain : goal.returns-clause-chain
-returns-clause-chain c = λ view setting closed told. view_chain (laws c) setting view (tells view setting closed told)
+returns-clause-chain c = λ view setting t. view_chain (laws c) setting view (tells view setting t.closed t.told)
 
 pub returns-clause-stands : goal.returns-clause-stands
-returns-clause-stands c = λ view setting chain closed told is i e chosen. view_stands (laws c) setting view chain (tells view setting closed told) is i e chosen
+returns-clause-stands c = λ view setting chain t is i e chosen. view_stands (laws c) setting view chain (tells view setting t.closed t.told) is i e chosen
 
 pub returns-clause-live : goal.returns-clause-live
-returns-clause-live c = λ view setting chain closed told is i e live. view_live (laws c) setting view chain i e (tells view setting closed told) is live
+returns-clause-live c = λ view setting chain t is i e live. view_live (laws c) setting view chain i e (tells view setting t.closed t.told) is live
 
 pub returns-clause-one_list : goal.returns-clause-one_list
-returns-clause-one_list c = λ one other setting a b wide p q agree x y la lb. views_agree (laws c) setting one other a b wide p q agree x y la lb
+returns-clause-one_list c = λ one other setting a b wide p q agree la lb. views_agree (laws c) setting one other a b wide p.closed q.closed agree p.told q.told la lb

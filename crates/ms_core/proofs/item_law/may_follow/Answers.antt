@@ -1,5 +1,5 @@
 use Rattle.ms_core.proofs.Following.{closed_may_follow, event_may_follow, untold_may_follow, offer_closed, told_first, untold_first}
-use Rattle.ms_core.proofs.view_law.may_follow.Goals as goal
+use Rattle.ms_core.proofs.item_law.may_follow.Goals as goal
 
 pub returns-clause-event : goal.returns-clause-event
 returns-clause-event c = closed_may_follow
@@ -11,7 +11,7 @@ pub returns-clause-untold : goal.returns-clause-untold
 returns-clause-untold c = untold_may_follow
 
 pub returns-clause-offer : goal.returns-clause-offer
-returns-clause-offer c = offer_closed
+returns-clause-offer c = λ view setting client position ballot entry t. offer_closed view setting client position ballot entry t.closed t.told
 
 pub returns-clause-first : goal.returns-clause-first
 returns-clause-first c = told_first

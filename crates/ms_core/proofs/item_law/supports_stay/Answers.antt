@@ -1,5 +1,5 @@
 use Rattle.ms_core.specs.Closing.{support_stays, closed_of_nothing, closed_of_longer}
-use Rattle.ms_core.proofs.view_law.supports_stay.Goals as goal
+use Rattle.ms_core.proofs.item_law.supports_stay.Goals as goal
 
 pub returns-clause-item : goal.returns-clause-item
 returns-clause-item c = support_stays
