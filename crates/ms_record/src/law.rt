@@ -69,6 +69,8 @@ pub fn one_chain()
         → Agrees votes origin → IsLinked votes origin c → IsLinked votes origin d → length c ≤ length d → Begins c d }
     ensures begins_there { (votes : ℕ → List Record) (origin : Origin) (c d : List Entry)
         → ((k : ℕ) → k ≤ length c → AgreesAt votes origin k) → IsLinked votes origin c → IsLinked votes origin d → length c ≤ length d → Begins c d }
+    ensures one_there { (votes : ℕ → List Record) (origin : Origin) (c d : List Entry)
+        → ((k : ℕ) → k ≤ length c → AgreesAt votes origin k) → IsLinked votes origin c → IsLinked votes origin d → length c ≡ length d → c ≡ d }
     ensures one_list { (votes : ℕ → List Record) (origin : Origin) (c d : List Entry)
         → Agrees votes origin → IsLinked votes origin c → IsLinked votes origin d → length c ≡ length d → c ≡ d }
     ensures stands { (votes : ℕ → List Record) (origin : Origin) (chain : List Entry) (i : ℕ) (e : Entry)

@@ -2,11 +2,11 @@
 use Rattle.std.proofs.Common.{◌≡◌, ℕ, ◌+◌, ◌<◌, ◌≤◌, Bool, true, false, ◌&&◌, cond, List, [], ◌∷◌, Option, Some, None, refl, sym, ap, ◌∙◌, subst, slice_get, length, count_by, zero-add, arith}
 use Rattle.std.specs.Prelude.{bytes_eq, ◌==◌}
 use Rattle.std.specs.Cmp.Lexicographic.{same_text}
-use Rattle.std.specs.List.{Contains}
+use Rattle.std.specs.List.{Contains, list_any}
 use Rattle.std.proofs.lemmas.Bool.Decides.{nat_tests}
 use Rattle.std.proofs.lemmas.List.FromFn.{length-range_with_len, get_or-range_with_len}
 use Rattle.std.proofs.lemmas.List.Sums.{sum_by-cons}
-use Rattle.std.proofs.lemmas.Option.{slice_get_within}
+use Rattle.std.proofs.lemmas.Option.{slice_get_within, slice_get-get_or, get_or_from_slice_get}
 use Rattle.ms_record.specs.declared.ballot.Ballot.{Ballot}
 use Rattle.ms_record.specs.declared.ballot.Vote.{Vote}
 use Rattle.ms_record.specs.declared.entry.Entry.{Entry}
@@ -23,7 +23,7 @@ use Rattle.ms_replay.specs.Standings.{IsNoLater, NoneTaken, IsGreatestVote, None
 use Rattle.ms_replay.specs.Tallies.{TallyView, AreVotes, AreKnown, HasVote, IsTallyOf}
 use Rattle.ms_replay.specs.Winners.{IsPartAt, has_text, IsWinner, IsFirstWinner, IsGreatestHere, StandsBeside}
 use Rattle.ms_replay.proofs.Groups.{fixes, bytes_same, number_is, entries_order}
-use Rattle.ms_replay.proofs.Places.{any_at, at_any, and_true}
+use Rattle.ms_replay.proofs.Places.{any_at, at_any, and_true, bool_same, count_congr_in}
 
 -- the voters are the services below n
 pub below_voter : (n s : ℕ) → s < n → Contains (services_below n) s
@@ -77,16 +77,40 @@ taken_text n k lists part h b e text spells s p l t =
     number_same : (m q : ℕ) → m ≡ q → (m == q) ≡ true
     number_same m q e = grind (arith, nat_tests)
 
-pub winner_chosen : (n k : ℕ) (lists : ℕ → List Record) (part : List Voted) (b : Ballot) (e : Entry) → ShowsAt lists n k part → IsWinner part n k b e → (c : ChosenBy lists (services_below n) k e) × (c.ballot ≡ b)
-winner_chosen n k lists part b e h w = (
+-- these are among the services below n
+abbrev pub AreBelow : ℕ → List ℕ → Type 0
+AreBelow n voters = (s : ℕ) → Contains voters s → s < n
+
+-- whether the number is in the list
+is_among : List ℕ → ℕ → Bool
+is_among voters s = list_any (λ v. v == s) voters
+
+is_in : (voters : List ℕ) (s : ℕ) → is_among voters s ≡ true → Contains voters s
+unfolding is_among
+is_in voters s h =
+    let a = any_at (λ v. v == s) voters h in
+    let l = slice_get_within voters a.0 a.1 a.2 in
+    (a.0, l, get_or_from_slice_get voters a.0 a.1 s a.2 ∙ number_is a.1 s a.3)
+
+in_is : (voters : List ℕ) (s : ℕ) → Contains voters s → is_among voters s ≡ true
+unfolding is_among
+in_is voters s c = at_any (λ v. v == s) voters c.0 s (slice_get-get_or voters c.0 s c.1 ∙ ap (λ (n : ℕ). Some n) c.2) (grind (arith, nat_tests))
+
+-- a test of the voters, narrowed to them, counts as many
+narrowed : (p : ℕ → Bool) (voters : List ℕ) → count_by (λ s. p s && is_among voters s) voters ≡ count_by p voters
+narrowed p voters = count_congr_in (λ s. p s && is_among voters s) p voters
+    (λ s c. bool_same (p s && is_among voters s) (p s) (λ h. (and_true (p s) (is_among voters s) h).0) (λ h. ap (λ (x : Bool). x && is_among voters s) h ∙ in_is voters s c))
+
+pub winner_chosen : (n k : ℕ) (voters : List ℕ) (lists : ℕ → List Record) (part : List Voted) (b : Ballot) (e : Entry) → ShowsAt lists n k part → IsWinner part voters k b e → (c : ChosenBy lists voters k e) × (c.ballot ≡ b)
+winner_chosen n k voters lists part b e h w = (
   record {
     ballot = b;
-    part = has_text part w.vote.text;
+    part = λ s. has_text part w.vote.text s && is_among voters s;
     majority = record {
-      within = λ s t. below_voter n s (text_taken n k lists part h b e w.vote.text w.reads s t).0;
-      more_than_half = omega (arith, length-range_with_len 0 n, w.majority);
+      within = λ s t. is_in voters s (and_true (has_text part w.vote.text s) (is_among voters s) t).1;
+      more_than_half = omega (arith, w.majority, narrowed (has_text part w.vote.text) voters);
     };
-    taken = λ s t. (text_taken n k lists part h b e w.vote.text w.reads s t).1;
+    taken = λ s t. (text_taken n k lists part h b e w.vote.text w.reads s (and_true (has_text part w.vote.text s) (is_among voters s) t).0).1;
   },
   refl,
 )
@@ -111,35 +135,35 @@ count_some p (x ∷ xs) h = some_step p x xs (p x) refl (count_some p xs) (omega
     some_step p x xs true e rest h = (x, e)
     some_step p x xs false e rest h = rest (omega arith)
 
-pub chosen_winner : (n k : ℕ) (lists : ℕ → List Record) (part : List Voted) (e : Entry) → ShowsAt lists n k part → (c : ChosenBy lists (services_below n) k e) → IsWinner part n k c.ballot e
-chosen_winner n k lists part e h c =
+pub chosen_winner : (n k : ℕ) (voters : List ℕ) (lists : ℕ → List Record) (part : List Voted) (e : Entry) → AreBelow n voters → ShowsAt lists n k part → (c : ChosenBy lists voters k e) → IsWinner part voters k c.ballot e
+chosen_winner n k voters lists part e below h c =
     let half = c.majority.more_than_half in
-    let some = count_some c.part (services_below n) (omega arith) in
+    let some = count_some c.part voters (omega arith) in
     let t = c.taken some.0 some.1 in
-    let w = h.kept some.0 t.0 c.ballot e (voter_below n some.0 (c.majority.within some.0 some.1)) t.1 in
+    let w = h.kept some.0 t.0 c.ballot e (below some.0 (c.majority.within some.0 some.1)) t.1 in
     let spells = text_is n k lists part h w.place w.vote c.ballot e w.stands w.reads in
-    let more = count_le c.part (has_text part w.vote.text) (services_below n)
-    (λ s p. let u = c.taken s p in taken_text n k lists part h c.ballot e w.vote.text spells s u.0 (voter_below n s (c.majority.within s p)) u.1) in
-    record { place = w.place; vote = w.vote; stands = w.stands; reads = w.reads; majority = omega (arith, length-range_with_len 0 n, half, more) }
+    let more = count_le c.part (has_text part w.vote.text) voters
+    (λ s p. let u = c.taken s p in taken_text n k lists part h c.ballot e w.vote.text spells s u.0 (below s (c.majority.within s p)) u.1) in
+    record { place = w.place; vote = w.vote; stands = w.stands; reads = w.reads; majority = omega (arith, half, more) }
 
-pub first_is : (n k : ℕ) (lists : ℕ → List Record) (part : List Voted) (but : Option Entry) (e : Entry) → ShowsAt lists n k part → IsFirstWinner part n k but e → IsFirstChosen lists (services_below n) k but e
-first_is n k lists part but e h w =
-    let c = winner_chosen n k lists part w.ballot e h w.winner in
+pub first_is : (n k : ℕ) (voters : List ℕ) (lists : ℕ → List Record) (part : List Voted) (but : Option Entry) (e : Entry) → AreBelow n voters → ShowsAt lists n k part → IsFirstWinner part voters k but e → IsFirstChosen lists voters k but e
+first_is n k voters lists part but e below h w =
+    let c = winner_chosen n k voters lists part w.ballot e h w.winner in
     record {
       chosen = c.0;
       differs = w.differs;
-      first = λ f other d. subst (λ (b : Ballot). IsNoLater b e other.ballot f) (sym c.1) (w.first other.ballot f (chosen_winner n k lists part f h other) d);
+      first = λ f other d. subst (λ (b : Ballot). IsNoLater b e other.ballot f) (sym c.1) (w.first other.ballot f (chosen_winner n k voters lists part f below h other) d);
     }
 
-pub none_is : (n k : ℕ) (lists : ℕ → List Record) (part : List Voted) → ShowsAt lists n k part → ((b : Ballot) (e : Entry) → IsWinner part n k b e → ⊥) → NoneChosen lists (services_below n) k
-none_is n k lists part h none e c = none c.ballot e (chosen_winner n k lists part e h c)
+pub none_is : (n k : ℕ) (voters : List ℕ) (lists : ℕ → List Record) (part : List Voted) → AreBelow n voters → ShowsAt lists n k part → ((b : Ballot) (e : Entry) → IsWinner part voters k b e → ⊥) → NoneChosen lists voters k
+none_is n k voters lists part below h none e c = none c.ballot e (chosen_winner n k voters lists part e below h c)
 
 pub greatest_is : (n k : ℕ) (lists : ℕ → List Record) (part : List Voted) (vote : Vote) → ShowsAt lists n k part → IsGreatestHere part k vote → IsGreatestVote lists (services_below n) k vote
 greatest_is n k lists part vote h g =
     let t = h.taken g.place g.voted vote.ballot vote.entry g.stands g.reads in
     record {
-      voter = g.voted.service;
-      votes = below_voter n g.voted.service (h.known g.place g.voted g.stands);
+      service = g.voted.service;
+      one = below_voter n g.voted.service (h.known g.place g.voted g.stands);
       place = t.0;
       taken = t.1;
       greatest = λ s p b e c u.
@@ -156,15 +180,15 @@ unseen_is n k lists part h none s p b e c u =
     let w = h.kept s p b e (voter_below n s c) u in
     let l = slice_get_within part w.place w.vote w.stands in omega arith
 
-pub beside_is : (n k : ℕ) (lists : ℕ → List Record) (part : List Voted) (first : Entry) (standing : Standing) → ShowsAt lists n k part → IsFirstWinner part n k None first → StandsBeside part n k first standing
-    → IsStanding lists (services_below n) k standing
-beside_is n k lists part first Unseen h w b = absurd b
-beside_is n k lists part first (Seen vote) h w b = absurd b
-beside_is n k lists part first (Chosen entry) h w b = (
-  subst (λ (e : Entry). ChosenBy lists (services_below n) k e) (sym b.0) (winner_chosen n k lists part w.ballot first h w.winner).0,
-  λ f c. b.1 c.ballot f (chosen_winner n k lists part f h c) ∙ sym b.0,
+pub beside_is : (n k : ℕ) (voters : List ℕ) (lists : ℕ → List Record) (part : List Voted) (first : Entry) (standing : Standing) → AreBelow n voters → ShowsAt lists n k part → IsFirstWinner part voters k None first
+    → StandsBeside part voters k first standing → IsStanding lists (services_below n) voters k standing
+beside_is n k voters lists part first Unseen below h w b = absurd b
+beside_is n k voters lists part first (Seen vote) below h w b = absurd b
+beside_is n k voters lists part first (Chosen entry) below h w b = (
+  subst (λ (e : Entry). ChosenBy lists voters k e) (sym b.0) (winner_chosen n k voters lists part w.ballot first h w.winner).0,
+  λ f c. b.1 c.ballot f (chosen_winner n k voters lists part f below h c) ∙ sym b.0,
 )
-beside_is n k lists part first (Split one second) h w b = (
-  subst (λ (e : Entry). IsFirstChosen lists (services_below n) k None e) (sym b.0) (first_is n k lists part None first h w),
-  subst (λ (e : Entry). IsFirstChosen lists (services_below n) k (Some e) second) (sym b.0) (first_is n k lists part (Some first) second h b.1),
+beside_is n k voters lists part first (Split one second) below h w b = (
+  subst (λ (e : Entry). IsFirstChosen lists voters k None e) (sym b.0) (first_is n k voters lists part None first below h w),
+  subst (λ (e : Entry). IsFirstChosen lists voters k (Some e) second) (sym b.0) (first_is n k voters lists part (Some first) second below h b.1),
 )

@@ -19,7 +19,6 @@ use Rattle.ms_record.specs.Ballots.{IsAtMost}
 use Rattle.ms_record.specs.Entries.{entry_text}
 use Rattle.ms_record.specs.Reading.{record_at}
 use Rattle.ms_record.specs.Records.{record_text, ballot_text}
-use Rattle.ms_record.specs.Votes.{services_below}
 use Rattle.ms_replay.specs.declared.voted.Voted.{Voted}
 use Rattle.ms_replay.specs.Standings.{Differs, IsGiven, IsNoLater, IsTextAtMost}
 use Rattle.ms_replay.specs.Tallies.{IsVote, vote_cmp}
@@ -132,12 +131,12 @@ group_votes k part group from to w here g starts is gw s = bool_same (has_voted 
     both a b p q = ap (λ (x : Bool). x && b) p ∙ q
 
 -- so a majority of a group is one of its text
-pub group_majority : (k services : ℕ) (part group : List Voted) (from to : ℕ) (w : Voted) → AreHere k part → IsGroup part from to
+pub group_majority : (k : ℕ) (voters : List ℕ) (part group : List Voted) (from to : ℕ) (w : Voted) → AreHere k part → IsGroup part from to
     → ((v w : Voted) → 0 < from → slice_get part (from - 1) ≡ Some v → slice_get part from ≡ Some w → v.text ≢ w.text)
     → group ≡ take (to - from) (drop from part) → slice_get part from ≡ Some w
-    → count_by (has_voted group) (services_below services) ≡ count_by (has_text part w.text) (services_below services)
-group_majority k services part group from to w here g starts is gw =
-    count_congr (has_voted group) (has_text part w.text) (services_below services) (group_votes k part group from to w here g starts is gw)
+    → count_by (has_voted group) voters ≡ count_by (has_text part w.text) voters
+group_majority k voters part group from to w here g starts is gw =
+    count_congr (has_voted group) (has_text part w.text) voters (group_votes k part group from to w here g starts is gw)
 
 -- what is before these bytes is alike
 front_same : (xs ys zs : List ℕ) → slice_cmp nat_cmp (xs ++ ys) (xs ++ zs) ≡ slice_cmp nat_cmp ys zs
@@ -165,16 +164,16 @@ starts_next part from to w g gw u v pos gu gv same =
     g.ends v w gv gw (sym same ∙ g.same (to - 1) u w (let s = g.some in omega arith) (omega arith) gu gw)
 
 -- the group at this place is for no other winner
-pub passed_next : (part : List Voted) (services k : ℕ) (but : Option Entry) (from to : ℕ) (w : Voted) → IsGroup part from to → slice_get part from ≡ Some w
-    → ((i : ℕ) (v : Voted) (b : Ballot) (e : Entry) → i < from → slice_get part i ≡ Some v → record_at v.text ≡ Some (Accept k b e) → HasMajority part services v.text → IsGiven but e)
-    → ((b : Ballot) (e : Entry) → record_at w.text ≡ Some (Accept k b e) → HasMajority part services w.text → IsGiven but e)
-    → (i : ℕ) (v : Voted) (b : Ballot) (e : Entry) → i < to → slice_get part i ≡ Some v → record_at v.text ≡ Some (Accept k b e) → HasMajority part services v.text → IsGiven but e
-passed_next part services k but from to w g gw before here i v b e l gv reads major =
+pub passed_next : (part : List Voted) (voters : List ℕ) (k : ℕ) (but : Option Entry) (from to : ℕ) (w : Voted) → IsGroup part from to → slice_get part from ≡ Some w
+    → ((i : ℕ) (v : Voted) (b : Ballot) (e : Entry) → i < from → slice_get part i ≡ Some v → record_at v.text ≡ Some (Accept k b e) → HasMajority part voters v.text → IsGiven but e)
+    → ((b : Ballot) (e : Entry) → record_at w.text ≡ Some (Accept k b e) → HasMajority part voters w.text → IsGiven but e)
+    → (i : ℕ) (v : Voted) (b : Ballot) (e : Entry) → i < to → slice_get part i ≡ Some v → record_at v.text ≡ Some (Accept k b e) → HasMajority part voters v.text → IsGiven but e
+passed_next part voters k but from to w g gw before here i v b e l gv reads major =
     elim (cases_lt i from) [
       | inl m ↦ before i v b e m gv reads major
       | inr m ↦
           let same = g.same i v w m l gv gw in
-          here b e (ap record_at (sym same) ∙ reads) (subst (λ (t : List ℕ). HasMajority part services t) same major)
+          here b e (ap record_at (sym same) ∙ reads) (subst (λ (t : List ℕ). HasMajority part voters t) same major)
     ]
 
 given_other : (but : Option Entry) (e : Entry) → IsGiven but e → Differs but e → ⊥
@@ -182,11 +181,11 @@ given_other None e h d = h
 given_other (Some f) e h d = d h
 
 -- the first winner
-pub first_winner : (k services : ℕ) (part : List Voted) (but : Option Entry) (from : ℕ) (w : Voted) (entry : Entry) → AreHere k part → slice_get part from ≡ Some w
-    → record_at w.text ≡ Some (Accept w.position w.ballot entry) → HasMajority part services w.text → Differs but entry
-    → ((i : ℕ) (v : Voted) (b : Ballot) (e : Entry) → i < from → slice_get part i ≡ Some v → record_at v.text ≡ Some (Accept k b e) → HasMajority part services v.text → IsGiven but e)
-    → IsFirstWinner part services k but entry
-first_winner k services part but from w entry here gw reads major differs before =
+pub first_winner : (k : ℕ) (voters : List ℕ) (part : List Voted) (but : Option Entry) (from : ℕ) (w : Voted) (entry : Entry) → AreHere k part → slice_get part from ≡ Some w
+    → record_at w.text ≡ Some (Accept w.position w.ballot entry) → HasMajority part voters w.text → Differs but entry
+    → ((i : ℕ) (v : Voted) (b : Ballot) (e : Entry) → i < from → slice_get part i ≡ Some v → record_at v.text ≡ Some (Accept k b e) → HasMajority part voters v.text → IsGiven but e)
+    → IsFirstWinner part voters k but entry
+first_winner k voters part but from w entry here gw reads major differs before =
     let p : w.position ≡ k = here.here from w gw in
     let r : record_at w.text ≡ Some (Accept k w.ballot entry) = reads ∙ ap (λ (n : ℕ). Some (Accept n w.ballot entry)) p in
     record {

@@ -1,8 +1,8 @@
 -- Places of a list that was made longer, or of which a part was taken.
 use Rattle.std.proofs.Common.{◌≡◌, ℕ, zero, suc, ◌+◌, ◌<◌, List, [], ◌∷◌, ◌++◌, Some, None, ◌⊎◌, inl, inr, refl, sym, ap, ◌∙◌, slice_get, length, take, drop, Bool, true, false, cond, ◌&&◌, ◌||◌, count_by, arith}
-use Rattle.std.specs.List.{list_any, range_with_len}
+use Rattle.std.specs.List.{Contains, list_any, range_with_len}
 use Rattle.std.proofs.lemmas.Map.Keys.{any_passes_from_place}
-use Rattle.std.proofs.lemmas.List.Sums.{sum_by-append}
+use Rattle.std.proofs.lemmas.List.Sums.{sum_by-append, sum_by-cons}
 
 pub place_left : {X : Type 0} (xs ys : List X) (i : ℕ) → i < length xs → slice_get (xs ++ ys) i ≡ slice_get xs i
 place_left [] ys i h = absurd (omega arith)
@@ -44,6 +44,13 @@ pub drop_place : {X : Type 0} (n : ℕ) (xs : List X) (i : ℕ) → slice_get (d
 drop_place zero xs i = ap (slice_get xs) (let e : i ≡ 0 + i = omega arith in e)
 drop_place (suc n) [] i = refl
 drop_place (suc n) (x ∷ xs) i = drop_place n xs i ∙ ap (slice_get (x ∷ xs)) (let e : suc (n + i) ≡ suc n + i = omega arith in e)
+
+-- tests that agree on the members count the same
+pub count_congr_in : (p q : ℕ → Bool) (xs : List ℕ) → ((s : ℕ) → Contains xs s → p s ≡ q s) → count_by p xs ≡ count_by q xs
+count_congr_in p q [] h = refl
+count_congr_in p q (x ∷ xs) h =
+    sum_by-cons (λ s. cond (p s) 1 0) x xs ∙ ap (λ (b : Bool). cond b 1 0 + count_by p xs) (h x (0, omega arith, refl))
+    ∙ ap (λ (n : ℕ). cond (q x) 1 0 + n) (count_congr_in p q xs (λ s c. h s (suc c.0, omega (arith, c.1), c.2))) ∙ sym (sum_by-cons (λ s. cond (q s) 1 0) x xs)
 
 -- a test that one of the list passes
 pub any_at : {X : Type 0} (p : X → Bool) (xs : List X) → list_any p xs ≡ true → (i : ℕ) × (x : X) × (slice_get xs i ≡ Some x) × (p x ≡ true)

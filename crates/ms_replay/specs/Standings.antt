@@ -20,18 +20,18 @@ IsTextAtMost e f = is_lt (slice_cmp nat_cmp (entry_text f) (entry_text e)) ≡ f
 abbrev pub IsNoLater : Ballot → Entry → Ballot → Entry → Type 0
 IsNoLater b e c f = IsAtMost b c × (c ≡ b → IsTextAtMost e f)
 
--- no voter has taken an Accept at the position
+-- no list of these services has a taken Accept at the position
 abbrev pub NoneTaken : (ℕ → List Record) → List ℕ → ℕ → Type 0
-NoneTaken lists voters position = (s place : ℕ) (b : Ballot) (e : Entry) → Contains voters s → IsTaken (lists s) place position b e → ⊥
+NoneTaken lists services position = (s place : ℕ) (b : Ballot) (e : Entry) → Contains services s → IsTaken (lists s) place position b e → ⊥
 
 -- a taken Accept of greatest ballot, and of those the one of least bytes
-pub record IsGreatestVote (lists : ℕ → List Record) (voters : List ℕ) (position : ℕ) (vote : Vote) : Type 0 where
-  pub voter : ℕ
-  pub votes : Contains voters voter
+pub record IsGreatestVote (lists : ℕ → List Record) (services : List ℕ) (position : ℕ) (vote : Vote) : Type 0 where
+  pub service : ℕ
+  pub one : Contains services service
   pub place : ℕ
-  pub taken : IsTaken (lists voter) place position vote.ballot vote.entry
-  pub greatest : (s p : ℕ) (b : Ballot) (e : Entry) → Contains voters s → IsTaken (lists s) p position b e → IsAtMost b vote.ballot
-  pub least : (s p : ℕ) (e : Entry) → Contains voters s → IsTaken (lists s) p position vote.ballot e → IsTextAtMost vote.entry e
+  pub taken : IsTaken (lists service) place position vote.ballot vote.entry
+  pub greatest : (s p : ℕ) (b : Ballot) (e : Entry) → Contains services s → IsTaken (lists s) p position b e → IsAtMost b vote.ballot
+  pub least : (s p : ℕ) (e : Entry) → Contains services s → IsTaken (lists s) p position vote.ballot e → IsTextAtMost vote.entry e
 
 abbrev pub NoneChosen : (ℕ → List Record) → List ℕ → ℕ → Type 0
 NoneChosen lists voters position = (e : Entry) → ChosenBy lists voters position e → ⊥
@@ -56,9 +56,10 @@ pub record IsFirstChosen (lists : ℕ → List Record) (voters : List ℕ) (posi
 abbrev pub IsOnlyChosen : (ℕ → List Record) → List ℕ → ℕ → Entry → Type 0
 IsOnlyChosen lists voters position entry = (f : Entry) → ChosenBy lists voters position f → f ≡ entry
 
--- what the lists of these voters show at the position; exactly one of the four holds
-abbrev pub IsStanding : (ℕ → List Record) → List ℕ → ℕ → Standing → Type 0
-IsStanding lists voters position Unseen = NoneTaken lists voters position
-IsStanding lists voters position (Seen vote) = IsGreatestVote lists voters position vote × NoneChosen lists voters position
-IsStanding lists voters position (Chosen entry) = ChosenBy lists voters position entry × IsOnlyChosen lists voters position entry
-IsStanding lists voters position (Split first second) = IsFirstChosen lists voters position None first × IsFirstChosen lists voters position (Some first) second
+-- What the lists of the services show at the position, where these of them vote: the greatest vote of all lists, and
+-- what the voters have chosen. Exactly one of the four holds.
+abbrev pub IsStanding : (ℕ → List Record) → List ℕ → List ℕ → ℕ → Standing → Type 0
+IsStanding lists services voters position Unseen = NoneTaken lists services position
+IsStanding lists services voters position (Seen vote) = IsGreatestVote lists services position vote × NoneChosen lists voters position
+IsStanding lists services voters position (Chosen entry) = ChosenBy lists voters position entry × IsOnlyChosen lists voters position entry
+IsStanding lists services voters position (Split first second) = IsFirstChosen lists voters position None first × IsFirstChosen lists voters position (Some first) second

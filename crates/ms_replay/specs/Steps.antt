@@ -1,21 +1,45 @@
 -- How a chain goes on.
-use Rattle.std.specs.Prelude.{◌≡◌, ℕ, Bool, true, false, List, [], ◌∷◌, ◌++◌}
+use Rattle.std.specs.Prelude.{◌≡◌, ℕ, List, [], ◌∷◌, ◌++◌}
 use Rattle.ms_record.specs.declared.entry.Entry.{Entry}
 use Rattle.ms_record.specs.declared.record.Record.{Record}
-use Rattle.ms_record.specs.Chains.{LinksOn, generation_after}
+use Rattle.ms_record.specs.Chains.{LinksOn, plan_after, voters_of}
 use Rattle.ms_record.specs.Entries.{name_of}
 use Rattle.ms_record.specs.Votes.{ChosenBy, services_below}
-use Rattle.ms_replay.specs.declared.audit.Growing.{Growing}
+use Rattle.ms_replay.specs.declared.audit.Made.{Made}
+use Rattle.ms_replay.specs.declared.audit.Next.{Next}
+use Rattle.ms_replay.specs.declared.audit.Next.TheVariants as nexts
+use Rattle.ms_replay.specs.declared.standing.Standing.TheVariants.{Split}
+use Rattle.ms_replay.specs.Standings.{IsStanding}
+
+-- the entry links on to what was made
+abbrev pub LinksTo : Made → ℕ → Entry → Type 0
+LinksTo made services e = LinksOn made.last.0 made.plan.generation made.plan.format services e
+
+-- two entries that the voters have chosen are one
+abbrev pub ChooseOne : (ℕ → List Record) → List ℕ → ℕ → Type 0
+ChooseOne lists voters position = (e f : Entry) → ChosenBy lists voters position e → ChosenBy lists voters position f → e ≡ f
+
+-- what stands at the next position: a member, none, or two chosen entries
+abbrev pub IsNextOf : (ℕ → List Record) → ℕ → Made → ℕ → Next → Type 0
+IsNextOf lists services made position (nexts.Member e) = ChosenBy lists (voters_of made.plan) position e × LinksTo made services e × ChooseOne lists (voters_of made.plan) position
+IsNextOf lists services made position nexts.End =
+    ChooseOne lists (voters_of made.plan) position × ((e : Entry) → ChosenBy lists (voters_of made.plan) position e → LinksTo made services e → ⊥)
+IsNextOf lists services made position (nexts.Split first second) = IsStanding lists (services_below services) (voters_of made.plan) position (Split first second)
 
 -- the chain goes on by the entry
-pub record Grows (old : Growing) (e : Entry) (new : Growing) : Type 0 where
+pub record GoesOnBy (old : Made) (e : Entry) (new : Made) : Type 0 where
   pub entries : new.entries ≡ old.entries ++ e ∷ []
   pub last : new.last.0 ≡ name_of e
-  pub generation : new.generation ≡ generation_after old.generation e.plan
+  pub plan : new.plan ≡ plan_after old.plan e.plan
 
--- it goes on by an entry that is chosen at the position and links on; or it stays, and there is none
-abbrev pub StepsTo : (ℕ → List Record) → ℕ → ℕ → Growing → Growing → Bool → Type 0
-StepsTo lists services position old new true =
-    (e : Entry) × ChosenBy lists (services_below services) position e × LinksOn old.last.0 old.generation services e × Grows old e new
-StepsTo lists services position old new false =
-    (new ≡ old) × ((e : Entry) → ChosenBy lists (services_below services) position e → LinksOn old.last.0 old.generation services e → ⊥)
+-- the entry is the next member, where it links on
+abbrev pub IsMemberOrEnd : ℕ → Made → Entry → Next → Type 0
+IsMemberOrEnd services made entry (nexts.Member e) = (e ≡ entry) × LinksTo made services entry
+IsMemberOrEnd services made entry nexts.End = LinksTo made services entry → ⊥
+IsMemberOrEnd services made entry (nexts.Split first second) = ⊥
+
+-- a member links on
+abbrev pub OnMember : Made → ℕ → Next → Type 0
+OnMember made services (nexts.Member e) = LinksTo made services e
+OnMember made services nexts.End = Unit {0}
+OnMember made services (nexts.Split first second) = Unit {0}

@@ -9,7 +9,6 @@ use Rattle.ms_record.specs.declared.entry.Entry.{Entry}
 use Rattle.ms_record.specs.declared.record.Record.TheVariants.{Accept}
 use Rattle.ms_record.specs.Ballots.{IsAtMost}
 use Rattle.ms_record.specs.Reading.{record_at}
-use Rattle.ms_record.specs.Votes.{services_below}
 use Rattle.ms_replay.specs.declared.voted.Voted.{Voted}
 use Rattle.ms_replay.specs.declared.standing.Standing.{Standing}
 use Rattle.ms_replay.specs.declared.standing.Standing.TheVariants.{Chosen, Split}
@@ -44,24 +43,24 @@ has_voted group s = list_any (λ v. v.service == s) group
 abbrev pub has_text : List Voted → List ℕ → ℕ → Bool
 has_text part text s = list_any (λ v. bytes_eq v.text text && (v.service == s)) part
 
--- more than half of the services have a vote of this text
-abbrev pub HasMajority : List Voted → ℕ → List ℕ → Type 0
-HasMajority part services text = services < 2 * count_by (has_text part text) (services_below services)
+-- more than half of the voters have a vote of this text
+abbrev pub HasMajority : List Voted → List ℕ → List ℕ → Type 0
+HasMajority part voters text = length voters < 2 * count_by (has_text part text) voters
 
--- a vote for this entry, for which more than half of the services voted under this ballot
-pub record IsWinner (part : List Voted) (services position : ℕ) (ballot : Ballot) (entry : Entry) : Type 0 where
+-- a vote for this entry, for which more than half of the voters voted under this ballot
+pub record IsWinner (part : List Voted) (voters : List ℕ) (position : ℕ) (ballot : Ballot) (entry : Entry) : Type 0 where
   pub place : ℕ
   pub vote : Voted
   pub stands : slice_get part place ≡ Some vote
   pub reads : record_at vote.text ≡ Some (Accept position ballot entry)
-  pub majority : HasMajority part services vote.text
+  pub majority : HasMajority part voters vote.text
 
 -- of the winners that are other than the one given, the first
-pub record IsFirstWinner (part : List Voted) (services position : ℕ) (but : Option Entry) (entry : Entry) : Type 0 where
+pub record IsFirstWinner (part : List Voted) (voters : List ℕ) (position : ℕ) (but : Option Entry) (entry : Entry) : Type 0 where
   pub ballot : Ballot
-  pub winner : IsWinner part services position ballot entry
+  pub winner : IsWinner part voters position ballot entry
   pub differs : Differs but entry
-  pub first : (c : Ballot) (f : Entry) → IsWinner part services position c f → Differs but f → IsNoLater ballot entry c f
+  pub first : (c : Ballot) (f : Entry) → IsWinner part voters position c f → Differs but f → IsNoLater ballot entry c f
 
 -- the vote of greatest ballot, and of those the one of least bytes
 pub record IsGreatestHere (part : List Voted) (position : ℕ) (vote : Vote) : Type 0 where
@@ -73,7 +72,7 @@ pub record IsGreatestHere (part : List Voted) (position : ℕ) (vote : Vote) : T
   pub least : (i : ℕ) (v : Voted) → slice_get part i ≡ Some v → v.ballot ≡ vote.ballot → is_lt (slice_cmp nat_cmp v.text voted.text) ≡ false
 
 -- what stands beside the first winner
-abbrev pub StandsBeside : List Voted → ℕ → ℕ → Entry → Standing → Type 0
-StandsBeside part services position first (Chosen entry) = (entry ≡ first) × ((b : Ballot) (e : Entry) → IsWinner part services position b e → e ≡ first)
-StandsBeside part services position first (Split one second) = (one ≡ first) × IsFirstWinner part services position (Some first) second
-StandsBeside part services position first _ = ⊥
+abbrev pub StandsBeside : List Voted → List ℕ → ℕ → Entry → Standing → Type 0
+StandsBeside part voters position first (Chosen entry) = (entry ≡ first) × ((b : Ballot) (e : Entry) → IsWinner part voters position b e → e ≡ first)
+StandsBeside part voters position first (Split one second) = (one ≡ first) × IsFirstWinner part voters position (Some first) second
+StandsBeside part voters position first _ = ⊥

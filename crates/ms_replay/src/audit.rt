@@ -1,21 +1,21 @@
 //! The agreed chain of a dump, or where it is split.
 
-ghost use Rattle.std.specs.Prelude.{◌≡◌, ◌≤◌, ℕ, List, length, IfOk, IfSome, IfNone, OnOk};
-ghost use Rattle.ms_record.specs.declared.entry.Entry.{Entry};
+ghost use Rattle.std.specs.Prelude.{◌≡◌, ◌≤◌, ◌<◌, ◌+◌, ℕ, List, Some, IfOk, OnOk, length, slice_get};
+ghost use Rattle.ms_record.specs.declared.plan.PlanRow.{PlanRow};
 ghost use Rattle.ms_record.specs.declared.record.Record.{Record};
-ghost use Rattle.ms_record.specs.Chains.{AgreesAt, IsChain, LinksOn, all_services, generation_after};
-ghost use Rattle.ms_record.specs.Votes.{ChosenBy, services_below};
-ghost use Rattle.ms_replay.specs.Audits.{AllAgree, IsAudit, origin_of};
-ghost use Rattle.ms_replay.specs.Steps.{Grows, StepsTo};
-ghost use Rattle.ms_replay.specs.Standings.{IsStanding};
+ghost use Rattle.ms_record.specs.Chains.{plan_after};
+ghost use Rattle.ms_record.specs.Entries.{name_of};
+ghost use Rattle.ms_replay.specs.Audits.{AuditsLists, IsAudit, origin_of};
+ghost use Rattle.ms_replay.specs.Steps.{GoesOnBy, IsMemberOrEnd, IsNextOf, OnMember};
 ghost use Rattle.ms_replay.specs.Tallies.{IsTallyOf};
-ghost use Rattle.ms_replay.specs.declared.standing.Standing.TheVariants as standings;
+ghost use Rattle.ms_replay.specs.declared.audit.Audit.TheVariants as audits;
 
 use crate::dump::Dump;
 use crate::standing::Standing;
-use crate::tally::{Tally, TwoChosen};
+use crate::tally::Tally;
 use ms_base::{Name, NoMemory};
-use ms_record::{Entries, Entry, Plan, entry_name, links_on};
+use ms_record::law::one_chain;
+use ms_record::{Entries, Entry, Plan, ServiceSet, entry_name, links_on};
 use std::alloc::Global;
 
 /// What the lists of a dump show.
@@ -41,96 +41,111 @@ pub fn audit_dump(alloc: Global, dump: &Dump) -> Result<Audit, NoMemory>
     ensures { IfOk result (IsAudit dump.now) }
 {
     let tally = Tally::of_lists(alloc, dump.services, dump.lists.as_slice())?;
-    match tally.first_split() {
-        Some(split) => Ok(Audit::Split {
-            position: split.position,
-            first: entry_name(&split.first),
-            second: entry_name(&split.second),
-        }),
-        None => {
-            let entries = chain(alloc, &tally, dump.genesis)?;
-            Ok(Audit::Linked { entries })
-        }
-    }
+    audit_tally(alloc, &tally, dump.genesis)
 }
 
-/// The generation in force behind an entry with this plan.
-fn next_generation(generation: u32, plan: &Option<Plan>) -> u32
-    ensures { result ≡ generation_after generation plan.now }
+/// As `audit_dump`, of lists that are read.
+fn audit_tally(alloc: Global, tally: &Tally, genesis: Name) -> Result<Audit, NoMemory>
+    requires some { 1 ≤ tally.now.services }
+    requires few { tally.now.services ≤ 16 }
+    ensures { (lists : ℕ → List Record) → IsTallyOf lists tally.now → IfOk result (AuditsLists lists (origin_of genesis.0 tally.now.services)) }
 {
-    match plan {
-        Some(plan) => plan.generation(),
-        None => generation,
-    }
-}
-
-/// The chosen entry of the position, where it links on.
-fn next_member(tally: &Tally, position: u32, before: &Name, generation: u32) -> Option<Entry>
-    requires { 1 ≤ position }
-    ensures some { (lists : ℕ → List Record) → IsTallyOf lists tally.now → IfSome result (λ e. ChosenBy lists (services_below tally.now.services) position e × LinksOn before.now.0 generation tally.now.services e) }
-    ensures none { (lists : ℕ → List Record) → IsTallyOf lists tally.now → AgreesAt lists tally.now.services position → IfNone result ((e : Entry) → ChosenBy lists (services_below tally.now.services) position e → LinksOn before.now.0 generation tally.now.services e → ⊥) }
-{
-    match tally.chosen(position) {
-        Standing::Chosen { entry } => {
-            if links_on(before, generation, tally.services(), &entry) {
-                Some(entry)
-            } else {
-                None
+    one_chain();
+    let mut made = Made {
+        entries: Entries::new(alloc),
+        last: genesis,
+        plan: Plan::even(tally.services(), 1),
+    };
+    for position in 1..u32::MAX {
+        match next_of(tally, &made, position) {
+            Next::Member { entry } => made.take(&entry)?,
+            Next::End => {
+                return Ok(Audit::Linked {
+                    entries: made.entries,
+                });
             }
+            Next::Split { first, second } => return Ok(split(position, &first, &second)),
         }
-        _ => None,
     }
+    Ok(Audit::Linked {
+        entries: made.entries,
+    })
 }
 
-/// A chain that is being made: its members behind the genesis, the name of the last and the generation in force.
+/// A chain that is being made: its members behind the genesis, the name of the last and the plan in force.
 #[derive(Drop)]
-pub struct Growing {
+pub struct Made {
     pub entries: Entries,
     pub last: Name,
-    pub generation: u32,
+    pub plan: Plan,
 }
 
-impl Growing {
-    /// Goes on by the chosen entry of the position, where it links on; answers whether it did.
-    fn go_on(&mut self, tally: &Tally, position: u32) -> Result<bool, NoMemory>
-        requires { 1 ≤ position }
-        ensures { (lists : ℕ → List Record) → IsTallyOf lists tally.now → AgreesAt lists tally.now.services position
-            → IfOk result (StepsTo lists tally.now.services position self.old self.new) }
-    {
-        match next_member(tally, position, &self.last, self.generation) {
-            Some(entry) => {
-                self.take(&entry)?;
-                Ok(true)
-            }
-            None => Ok(false),
-        }
-    }
+/// What stands at the next position.
+#[derive(Clone, Copy)]
+pub enum Next {
+    /// The one entry that is chosen there links on.
+    Member { entry: Entry },
+    /// None does.
+    End,
+    /// Two are chosen.
+    Split { first: Entry, second: Entry },
+}
 
+/// What stands at the next position, by the votes of the services of the plan in force.
+fn next_of(tally: &Tally, made: &Made, position: u32) -> Next
+    requires { (i : ℕ) (row : PlanRow) → slice_get made.now.plan.rows i ≡ Some row → row.service.0 < tally.now.services }
+    ensures links { OnMember made.now tally.now.services result }
+    ensures is { (lists : ℕ → List Record) → IsTallyOf lists tally.now → IsNextOf lists tally.now.services made.now position result }
+{
+    match tally.chosen(position, &ServiceSet::of_plan(&made.plan)) {
+        Standing::Chosen { entry } => member_or_end(tally.services(), made, entry),
+        Standing::Split { first, second } => Next::Split { first, second },
+        _ => Next::End,
+    }
+}
+
+/// The entry, where it links on.
+fn member_or_end(services: u32, made: &Made, entry: Entry) -> Next
+    ensures { IsMemberOrEnd services made.now entry result }
+{
+    let generation = made.plan.generation();
+    let format = made.plan.format();
+    if links_on(&made.last, generation, format, services, &entry) {
+        Next::Member { entry }
+    } else {
+        Next::End
+    }
+}
+
+/// Two chosen entries, by their names.
+fn split(position: u32, first: &Entry, second: &Entry) -> Audit
+    ensures { result ≡ audits.Split position (record { 0 = name_of first.now }) (record { 0 = name_of second.now }) }
+{
+    Audit::Split {
+        position,
+        first: entry_name(first),
+        second: entry_name(second),
+    }
+}
+
+impl Made {
     /// Goes on by this entry.
     fn take(&mut self, entry: &Entry) -> Result<(), NoMemory>
-        ensures { OnOk result (Grows self.old entry.now self.new) }
+        ensures { OnOk result (GoesOnBy self.old entry.now self.new) }
     {
         self.entries.push(*entry)?;
         self.last = entry_name(entry);
-        self.generation = next_generation(self.generation, &entry.plan);
+        self.plan = plan_behind(&self.plan, &entry.plan);
         Ok(())
     }
 }
 
-/// The chain behind the genesis of this name, whose generation is 1.
-fn chain(alloc: Global, tally: &Tally, genesis: Name) -> Result<Entries, NoMemory>
-    ensures { (lists : ℕ → List Record) → IsTallyOf lists tally.now → AllAgree lists tally.now.services
-        → IfOk result (IsChain lists (all_services tally.now.services) (origin_of genesis.0 tally.now.services)) }
+/// The plan of an entry, else the one in force before it.
+fn plan_behind(before: &Plan, plan: &Option<Plan>) -> Plan
+    ensures { result ≡ plan_after before.now plan.now }
 {
-    let mut growing = Growing {
-        entries: Entries::new(alloc),
-        last: genesis,
-        generation: 1,
-    };
-    for position in 1..u32::MAX {
-        if !growing.go_on(tally, position)? {
-            return Ok(growing.entries);
-        }
+    match plan {
+        Some(plan) => *plan,
+        None => *before,
     }
-    Ok(growing.entries)
 }

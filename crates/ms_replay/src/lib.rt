@@ -4,9 +4,9 @@
 pub mod acceptor;
 pub mod audit;
 pub mod dump;
-pub mod standing;
-pub mod tally;
-pub mod voted;
+mod standing;
+mod tally;
+mod voted;
 
 pub use acceptor::{Acceptor, Verdict};
 pub use audit::{Audit, audit_dump};

@@ -3,14 +3,13 @@
 ghost use Rattle.std.specs.Prelude.{◌≡◌, ◌≢◌, ◌⊎◌, ℕ, ◌+◌, ◌*◌, ◌<◌, ◌≤◌, ◌↔◌, Some, IfSome, IfNone, IsTrue, true, false, length, count_by, slice_get};
 ghost use Rattle.ms_record.specs.declared.ballot.Ballot.{Ballot};
 ghost use Rattle.ms_record.specs.declared.entry.Entry.{Entry};
-ghost use Rattle.ms_record.specs.Votes.{services_below};
 ghost use Rattle.ms_replay.specs.declared.voted.Voted.{Voted};
 ghost use Rattle.ms_replay.specs.Tallies.{AreSorted};
 ghost use Rattle.ms_replay.specs.Standings.{Differs, IsGiven};
 ghost use Rattle.ms_replay.specs.Winners.{IsPartAt, AreHere, IsGroup, IsWinner, IsFirstWinner, IsGreatestHere, has_voted};
 
 use crate::voted::Voted;
-use ms_record::{Ballot, Entry, Vote};
+use ms_record::{Ballot, Entry, ServiceSet, Vote};
 
 /// What the lists show at a position.
 #[derive(Clone, Copy, Debug, PartialEq, Eq)]
@@ -48,21 +47,21 @@ fn group_end(part: &[Voted], from: usize) -> usize
     to
 }
 
-/// Whether more than half of the services are among these votes.
-fn is_majority(group: &[Voted], services: u32) -> bool
-    ensures { IsTrue result ↔ (services < 2 * count_by (has_voted group.now) (services_below services)) }
+/// Whether more than half of the voters are among these votes.
+fn is_majority(group: &[Voted], voters: &ServiceSet) -> bool
+    ensures { IsTrue result ↔ (length voters.now < 2 * count_by (has_voted group.now) voters.now) }
 {
-    u64::from(services) < 2 * count_voters(group, services)
+    voters.len() < 2 * count_voters(group, voters)
 }
 
-/// How many services are among these votes.
-fn count_voters(group: &[Voted], services: u32) -> u64
-    ensures is { result ≡ count_by (has_voted group.now) (services_below services) }
-    ensures few { result ≤ services }
+/// How many voters are among these votes.
+fn count_voters(group: &[Voted], voters: &ServiceSet) -> usize
+    ensures is { result ≡ count_by (has_voted group.now) voters.now }
+    ensures few { result ≤ 16 }
 {
     let mut count = 0;
-    for service in 0..services {
-        if is_among(group, service) {
+    for voter in voters.as_slice() {
+        if is_among(group, voter.0) {
             count += 1;
         }
     }
@@ -87,22 +86,22 @@ fn is_another(but: &Option<Entry>, entry: &Entry) -> bool
     }
 }
 
-/// Of the entries for which a majority of the services voted under one ballot, the first, passing over the one given.
+/// Of the entries for which a majority of the voters voted under one ballot, the first, passing over the one given.
 pub fn first_chosen(
     part: &[Voted],
-    services: u32,
+    voters: &ServiceSet,
     position: u32,
     but: &Option<Entry>,
 ) -> Option<Entry>
     requires { AreHere position part.now }
-    ensures some { IfSome result (IsFirstWinner part.now services position but.now) }
-    ensures none { IfNone result ((b : Ballot) (e : Entry) → IsWinner part.now services position b e → IsGiven but.now e) }
+    ensures some { IfSome result (IsFirstWinner part.now voters.now position but.now) }
+    ensures none { IfNone result ((b : Ballot) (e : Entry) → IsWinner part.now voters.now position b e → IsGiven but.now e) }
 {
     let mut from = 0;
     while from < part.len() {
         let to = group_end(part, from);
         let voted = &part[from];
-        if is_majority(&part[from..to], services) {
+        if is_majority(&part[from..to], voters) {
             let entry = voted.entry();
             if is_another(but, &entry) {
                 return Some(entry);

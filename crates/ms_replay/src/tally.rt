@@ -1,29 +1,19 @@
 //! The tally of the vote lists of all services.
 
-ghost use Rattle.std.specs.Prelude.{◌≡◌, ◌<◌, ℕ, List, [], IfOk, OnOk, OnErr, IfSome, IfNone, length, replicate, slice_index_or, vec_len};
+ghost use Rattle.std.specs.Prelude.{◌≡◌, ◌≤◌, ◌<◌, ℕ, List, [], Contains, IfOk, OnOk, OnErr, length};
 ghost use Rattle.ms_record.specs.declared.record.Record.{Record};
 ghost use Rattle.ms_record.specs.Reading.{votes_of};
 ghost use Rattle.ms_record.specs.Votes.{services_below};
-ghost use Rattle.ms_record.specs.Chains.{AgreesAt};
 ghost use Rattle.ms_replay.specs.Standings.{IsStanding};
-ghost use Rattle.ms_replay.specs.declared.standing.Standing.TheVariants as standings;
 ghost use Rattle.ms_replay.specs.Winners.{AreHere, StandsBeside};
 
 use crate::standing::{Standing, first_chosen, greatest_vote, votes_at};
 use crate::voted::{Voted, read_list, sort_votes};
 use ms_base::{Bytes, Items, NoMemory, ServiceId};
-use ms_record::{Ballot, Entry};
+use ms_record::{Ballot, Entry, ServiceSet};
 use std::alloc::Global;
 use std::collections::BTreeMap;
 use std::marker::Model;
-
-/// Two entries that are chosen at one position.
-#[derive(Clone, Copy, Debug, PartialEq, Eq)]
-pub struct TwoChosen {
-    pub position: u32,
-    pub first: Entry,
-    pub second: Entry,
-}
 
 /// What the vote lists of some services show: the greatest ballots, and the votes that were taken.
 #[derive(Drop)]
@@ -49,7 +39,7 @@ impl Model for Tally {
 
 impl Tally {
     ghost use Rattle.ms_replay.specs.Tallies.{IsTallyOf, goes_on};
-    ghost use Rattle.ms_replay.specs.Audits.{lists_of, AllAgree, IsLeastSplit};
+    ghost use Rattle.ms_replay.specs.Audits.{lists_of};
 
     /// The tally of so many services, of whose lists nothing was read.
     pub fn new(alloc: Global, services: u32) -> Result<Tally, NoMemory>
@@ -123,62 +113,30 @@ impl Tally {
         }
     }
 
-    /// What the lists that were read show at the position.
-    pub fn chosen(&self, position: u32) -> Standing
-        ensures { (lists : ℕ → List Record) → IsTallyOf lists self.now → IsStanding lists (services_below self.now.services) position result }
+    /// What the lists that were read show at the position, where these services vote there.
+    pub fn chosen(&self, position: u32, voters: &ServiceSet) -> Standing
+        requires some { 1 ≤ length voters.now }
+        requires known { (s : ℕ) → Contains voters.now s → s < self.now.services }
+        ensures { (lists : ℕ → List Record) → IsTallyOf lists self.now → IsStanding lists (services_below self.now.services) voters.now position result }
     {
         let here = votes_at(&self.votes, position);
-        match first_chosen(here, self.services, position, &None) {
-            Some(first) => chosen_beside(here, self.services, position, &first),
+        match first_chosen(here, voters, position, &None) {
+            Some(first) => chosen_beside(here, voters, position, &first),
             None => match greatest_vote(here, position) {
                 Some(vote) => Standing::Seen { vote },
                 None => Standing::Unseen,
             },
         }
     }
-
-    /// The least position at which two entries are chosen, with the two.
-    pub fn first_split(&self) -> Option<TwoChosen>
-        ensures some { (lists : ℕ → List Record) → IsTallyOf lists self.now → IfSome result (λ s. IsLeastSplit lists self.now.services s.position s.first s.second) }
-        ensures none { (lists : ℕ → List Record) → IsTallyOf lists self.now → IfNone result (AllAgree lists self.now.services) }
-    {
-        let mut last = 0;
-        for voted in &self.votes {
-            if let Some(split) = self.split_behind(last, voted.position) {
-                return Some(split);
-            }
-            last = voted.position;
-        }
-        None
-    }
-
-    /// The two that are chosen at the position, unless it is the one looked at last.
-    fn split_behind(&self, last: u32, position: u32) -> Option<TwoChosen>
-        ensures at { IfSome result (λ s. s.position ≡ position) }
-        ensures some { (lists : ℕ → List Record) → IsTallyOf lists self.now → IfSome result (λ s. IsStanding lists (services_below self.now.services) position (standings.Split s.first s.second)) }
-        ensures none { (lists : ℕ → List Record) → IsTallyOf lists self.now → AgreesAt lists self.now.services last → IfNone result (AgreesAt lists self.now.services position) }
-    {
-        if position == last {
-            return None;
-        }
-        match self.chosen(position) {
-            Standing::Split { first, second } => Some(TwoChosen {
-                position,
-                first,
-                second,
-            }),
-            _ => None,
-        }
-    }
 }
 
 /// Whether another entry is chosen beside the first.
-fn chosen_beside(here: &[Voted], services: u32, position: u32, first: &Entry) -> Standing
+fn chosen_beside(here: &[Voted], voters: &ServiceSet, position: u32, first: &Entry) -> Standing
     requires { AreHere position here.now }
-    ensures { StandsBeside here.now services position first.now result }
+    ensures { StandsBeside here.now voters.now position first.now result }
 {
     let given = Some(*first);
-    match first_chosen(here, services, position, &given) {
+    match first_chosen(here, voters, position, &given) {
         Some(second) => Standing::Split {
             first: *first,
             second,

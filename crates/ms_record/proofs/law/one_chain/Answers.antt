@@ -19,6 +19,9 @@ returns-clause-begins x = λ votes origin c d agree hc hd l. linked_begins votes
 pub returns-clause-begins_there : goal.returns-clause-begins_there
 returns-clause-begins_there x = λ votes origin c d agree hc hd l. linked_begins votes origin c d agree hc hd l
 
+pub returns-clause-one_there : goal.returns-clause-one_there
+returns-clause-one_there x = λ votes origin c d agree hc hd h. linked_same votes origin c d agree hc hd h
+
 pub returns-clause-one_list : goal.returns-clause-one_list
 returns-clause-one_list x = λ votes origin c d agree hc hd h. linked_same votes origin c d (λ k l. agree k) hc hd h
 

@@ -11,9 +11,9 @@ returns-then-is_another-clause-some c =
     let part = c.args.part.now in
     let w = c.index-part-from.result in
     let gw : slice_get part c.loop-from.from ≡ Some w = slice_get_read part (length part) c.loop-from.from w refl c.loop-from-test.true c.index-part-from.is in
-    let e = group_majority c.args.position c.args.services part _ c.loop-from.from c.group_end-to.result w c.requires c.group_end-to.ensures c.loop-from.invariant.starts refl gw in
-    let major : HasMajority part c.args.services w.text = (let h = c.is_majority.ensures.0 c.if-is_majority.true in omega (arith, e)) in
-    first_winner c.args.position c.args.services part c.args.but.now c.loop-from.from w c.entry-entry.result c.requires gw c.entry-entry.ensures major (c.is_another.ensures.yes c.if-is_another.true) c.loop-from.invariant.none
+    let e = group_majority c.args.position c.args.voters.now part _ c.loop-from.from c.group_end-to.result w c.requires c.group_end-to.ensures c.loop-from.invariant.starts refl gw in
+    let major : HasMajority part c.args.voters.now w.text = (let h = c.is_majority.ensures.0 c.if-is_majority.true in omega (arith, e)) in
+    first_winner c.args.position c.args.voters.now part c.args.but.now c.loop-from.from w c.entry-entry.result c.requires gw c.entry-entry.ensures major (c.is_another.ensures.yes c.if-is_another.true) c.loop-from.invariant.none
 
 pub loop-from-preserved-else-is_another : goal.loop-from-preserved-else-is_another
 loop-from-preserved-else-is_another c =
@@ -23,7 +23,7 @@ loop-from-preserved-else-is_another c =
     record {
       within = c.group_end-to.ensures.within;
       starts = starts_next part c.loop-from.from c.group_end-to.result w c.group_end-to.ensures gw;
-      none = passed_next part c.args.services c.args.position c.args.but.now c.loop-from.from c.group_end-to.result w c.group_end-to.ensures gw c.loop-from.invariant.none
+      none = passed_next part c.args.voters.now c.args.position c.args.but.now c.loop-from.from c.group_end-to.result w c.group_end-to.ensures gw c.loop-from.invariant.none
           (λ b e reads major.
           let one = one_entry w w c.args.position w.position b w.ballot e c.entry-entry.result refl reads c.entry-entry.ensures in
           subst (λ (x : Entry). IsGiven c.args.but.now x) (sym one.2) (c.is_another.ensures.no c.if-is_another.false));
@@ -34,11 +34,11 @@ loop-from-preserved c =
     let part = c.args.part.now in
     let w = c.index-part-from.result in
     let gw : slice_get part c.loop-from.from ≡ Some w = slice_get_read part (length part) c.loop-from.from w refl c.loop-from-test.true c.index-part-from.is in
-    let same = group_majority c.args.position c.args.services part _ c.loop-from.from c.group_end-to.result w c.requires c.group_end-to.ensures c.loop-from.invariant.starts refl gw in
+    let same = group_majority c.args.position c.args.voters.now part _ c.loop-from.from c.group_end-to.result w c.requires c.group_end-to.ensures c.loop-from.invariant.starts refl gw in
     record {
       within = c.group_end-to.ensures.within;
       starts = starts_next part c.loop-from.from c.group_end-to.result w c.group_end-to.ensures gw;
-      none = passed_next part c.args.services c.args.position c.args.but.now c.loop-from.from c.group_end-to.result w c.group_end-to.ensures gw c.loop-from.invariant.none
+      none = passed_next part c.args.voters.now c.args.position c.args.but.now c.loop-from.from c.group_end-to.result w c.group_end-to.ensures gw c.loop-from.invariant.none
           (λ b e reads major.
           let yes = c.is_majority.ensures.1 (omega (arith, same, major)) in
           let no = c.if-is_majority.false in absurd cc);

@@ -13,7 +13,7 @@ invariant-loop-from l = record {
   within : l.from ≤ length l.part;
   starts : (v w : Voted) → 0 < l.from → slice_get l.part (l.from - 1) ≡ Some v → slice_get l.part l.from ≡ Some w → v.text ≢ w.text;
   none : (i : ℕ) (v : Voted) (b : Ballot) (e : Entry) → i < l.from → slice_get l.part i ≡ Some v → record_at v.text ≡ Some (Accept l.position b e)
-      → HasMajority l.part l.services v.text → IsGiven l.but e;
+      → HasMajority l.part l.voters v.text → IsGiven l.but e;
 }
 
 abbrev pub decreases-loop-from : goal.decreases-loop-from

@@ -6,7 +6,7 @@ use Rattle.ms_replay.specs.Standings.{IsStanding}
 use Rattle.ms_replay.specs.Tallies.{TallyView, IsTallyOf}
 use Rattle.ms_replay.specs.TallyInside.{view_of}
 use Rattle.ms_replay.specs.Winners.{IsPartAt}
-use Rattle.ms_replay.proofs.Choosing.{shows_at, none_is, greatest_is, unseen_is, beside_is}
+use Rattle.ms_replay.proofs.Choosing.{AreBelow, shows_at, none_is, greatest_is, unseen_is, beside_is}
 use Rattle.ms_replay.proofs.Parts.{part_here}
 use Rattle.ms_replay.proofs.tally.Tally.chosen.Goals as goal
 
@@ -29,25 +29,28 @@ pub returns-in-Some : goal.returns-in-Some
 returns-in-Some c = λ lists h.
     let k = c.args.position in
     let here = c.votes_at-here.result.now in
+    let below : AreBelow c.self.inside.services c.args.voters.now = subst (λ (t : TallyView). AreBelow t.services c.args.voters.now) (sym c.self.view_is) c.requires.known in
     let part = subst (λ (vs : List Voted). IsPartAt k vs here) c.deref.ensures.value c.votes_at-here.ensures in
     let shows = shows_at lists (view_of c.self.inside) k here (subst (λ (t : TallyView). IsTallyOf lists t) (sym c.self.view_is) h) c.self.invariant.votes c.self.invariant.known part in
-    subst (λ (t : TallyView). IsStanding lists (services_below t.services) k c.chosen_beside.result) c.self.view_is
-    (beside_is c.self.inside.services k lists here c.in-Some.first c.chosen_beside.result shows c.in-Some.ensures.some c.chosen_beside.ensures)
+    subst (λ (t : TallyView). IsStanding lists (services_below t.services) c.args.voters.now k c.chosen_beside.result) c.self.view_is
+    (beside_is c.self.inside.services k c.args.voters.now lists here c.in-Some.first c.chosen_beside.result below shows c.in-Some.ensures.some c.chosen_beside.ensures)
 
 pub returns-in-Some-greatest_vote : goal.returns-in-Some-greatest_vote
 returns-in-Some-greatest_vote c = λ lists h.
     let k = c.args.position in
     let here = c.votes_at-here.result.now in
+    let below : AreBelow c.self.inside.services c.args.voters.now = subst (λ (t : TallyView). AreBelow t.services c.args.voters.now) (sym c.self.view_is) c.requires.known in
     let part = subst (λ (vs : List Voted). IsPartAt k vs here) c.deref.ensures.value c.votes_at-here.ensures in
     let shows = shows_at lists (view_of c.self.inside) k here (subst (λ (t : TallyView). IsTallyOf lists t) (sym c.self.view_is) h) c.self.invariant.votes c.self.invariant.known part in
-    subst (λ (t : TallyView). IsStanding lists (services_below t.services) k (Seen c.in-Some-greatest_vote.vote)) c.self.view_is
-    (greatest_is c.self.inside.services k lists here c.in-Some-greatest_vote.vote shows c.in-Some-greatest_vote.ensures.some, none_is c.self.inside.services k lists here shows c.in-None.ensures.none)
+    subst (λ (t : TallyView). IsStanding lists (services_below t.services) c.args.voters.now k (Seen c.in-Some-greatest_vote.vote)) c.self.view_is
+    (greatest_is c.self.inside.services k lists here c.in-Some-greatest_vote.vote shows c.in-Some-greatest_vote.ensures.some, none_is c.self.inside.services k c.args.voters.now lists here below shows c.in-None.ensures.none)
 
 pub returns-in-None-greatest_vote : goal.returns-in-None-greatest_vote
 returns-in-None-greatest_vote c = λ lists h.
     let k = c.args.position in
     let here = c.votes_at-here.result.now in
+    let below : AreBelow c.self.inside.services c.args.voters.now = subst (λ (t : TallyView). AreBelow t.services c.args.voters.now) (sym c.self.view_is) c.requires.known in
     let part = subst (λ (vs : List Voted). IsPartAt k vs here) c.deref.ensures.value c.votes_at-here.ensures in
     let shows = shows_at lists (view_of c.self.inside) k here (subst (λ (t : TallyView). IsTallyOf lists t) (sym c.self.view_is) h) c.self.invariant.votes c.self.invariant.known part in
-    subst (λ (t : TallyView). IsStanding lists (services_below t.services) k Unseen) c.self.view_is
+    subst (λ (t : TallyView). IsStanding lists (services_below t.services) c.args.voters.now k Unseen) c.self.view_is
     (unseen_is c.self.inside.services k lists here shows c.in-None-greatest_vote.ensures.none)
