@@ -401,15 +401,23 @@ def turn_behind_a_migration_wants_its_format():
     return s, "event %d placed" % (len(s.lines) - 1)
 
 
-def blob_of_format_1_under_a_file_of_format_2():
+def bid_with_another_blob(blob):
+    """Behind a migration, a bid with a version of format 2 whose one file names that blob."""
     s, _, _ = migrated()
     texts = tree(2, 3, ONE_FILE)
-    blob = b"B" + texts[0][1:]
     file_ = texts[1][:13] + sha(blob)
     root = texts[2][:-32] + sha(file_)
     version = texts[3][:-32] + sha(root)
     s.add("bid 0 3 3 %s" % s.place([blob, file_, root, version], services=(0, 1)))
     return s, "event %d placed" % (len(s.lines) - 1)
+
+
+def blob_of_format_1_under_a_file_of_format_2():
+    return bid_with_another_blob(b"Bone")
+
+
+def empty_blob_of_format_2():
+    return bid_with_another_blob(b"C")
 
 
 def bid_without_a_blob():
@@ -548,7 +556,7 @@ def drills():
         migration_is_chosen, push_of_format_1_behind_a_migration, push_of_format_2_before_a_migration,
         migration_of_a_version_of_format_1, migration_twice, migration_twice_by_one_who_did_not_learn, migration_with_a_wrong_round,
         collection_after_a_migration, collection_before_its_turn, turn_behind_a_migration_wants_its_format,
-        blob_of_format_1_under_a_file_of_format_2, bid_without_a_blob, bid_with_each_blob_where_it_likes, chain_of_six,
+        blob_of_format_1_under_a_file_of_format_2, empty_blob_of_format_2, bid_without_a_blob, bid_with_each_blob_where_it_likes, chain_of_six,
         sixteen_services_and_sixteen_clients, nothing_happens, drill_of_one_service, offer_needs_promises, offer_of_nothing,
     ):
         schedule, ends = make()
