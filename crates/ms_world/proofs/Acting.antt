@@ -1,10 +1,12 @@
 -- What the methods of a state leave is what the events say.
-use Rattle.std.proofs.Common.{◌≡◌, ℕ, ◌<◌, ◌≤◌, true, false, List, [], Some, None, get_or, refl, sym, ap, ◌∙◌, slice_get, slice_set, slice_index_or, length, replicate, arith}
+use Rattle.std.proofs.Common.{◌≡◌, ℕ, ◌<◌, ◌≤◌, true, false, List, [], ◌∷◌, ◌++◌, map, Some, None, get_or, refl, sym, ap, ◌∙◌, slice_get, slice_set, slice_index_or, length, replicate, arith}
 use Rattle.std.proofs.lemmas.List.{append-nil, get_or_read}
 use Rattle.std.proofs.lemmas.Option.{slice_get_read, slice_get_within}
 use Rattle.ms_core.proofs.Places.{some_same}
 use Rattle.ms_world.specs.Steps.{IsUp, StartStep, StopStep, ReadStep}
-use Rattle.ms_world.specs.Worlds.{ClientView, RequestView, WorldView, changed, log_of}
+use Rattle.ms_world.specs.Worlds.{ClientView, RequestView, WorldView, changed, log_of, services_of, to_all}
+use Rattle.ms_record.specs.declared.plan.PlanRow.{PlanRow}
+use Rattle.ms_record.specs.declared.record.Record.{Record}
 use Rattle.ms_record.specs.declared.log.LogEvent.{LogEvent}
 use Rattle.ms_record.specs.declared.setting.Setting.{Setting}
 
@@ -53,3 +55,18 @@ read_to setting inside w i service upto c m d log e up there longer within is_lo
   becomes = quiet inside w i d (record c { known = slice_set c.known service upto }) e
       (is ∙ ap (λ (x : ClientView). let v : ClientView = record x { known = slice_set x.known service upto } in v) (found inside w i c m e up.is read));
 }
+
+-- a request to each row is one to each of their services
+all_asked : (rows : List PlanRow) (m : Record) → map (λ (row : PlanRow). let r : RequestView = record { service = row.service.0; message = m } in r) rows ≡ to_all (services_of rows) m
+all_asked [] m = refl
+all_asked (row ∷ rows) m = ap (λ (l : List RequestView). (let r : RequestView = record { service = row.service.0; message = m } in r) ∷ l) (all_asked rows m)
+
+abbrev requests_of : List PlanRow → Record → List RequestView
+requests_of rows m = map (λ (row : PlanRow). let r : RequestView = record { service = row.service.0; message = m } in r) rows
+
+-- the requests stand behind those before
+pub sent_more : (inside old : WorldView) (rows : List PlanRow) (m : Record) (sent requests : List RequestView) → inside ≡ old → sent ≡ requests_of rows m → requests ≡ inside.requests ++ sent
+    → (let v : WorldView = record { logs = inside.logs; requests = requests; clients = inside.clients } in v) ≡ record old { requests = old.requests ++ to_all (services_of rows) m }
+sent_more inside old rows m sent requests same are behind =
+    ap (λ (rs : List RequestView). let v : WorldView = record { logs = inside.logs; requests = rs; clients = inside.clients } in v) (behind ∙ ap (λ (l : List RequestView). inside.requests ++ l) (are ∙ all_asked rows m))
+    ∙ ap (λ (w : WorldView). let v : WorldView = record { logs = w.logs; requests = w.requests ++ to_all (services_of rows) m; clients = w.clients } in v) same

@@ -1,5 +1,5 @@
 -- Each event keeps what holds.
-use Rattle.std.proofs.Common.{◌≡◌, ℕ, suc, ◌+◌, ◌^◌, ◌<◌, ◌≤◌, Bool, true, false, List, [], ◌∷◌, ◌++◌, Option, Some, None, ◌⊎◌, inl, inr, refl, sym, ap, ◌∙◌, subst, slice_get, slice_set, length, replicate, count_by, cond, arith}
+use Rattle.std.proofs.Common.{◌≡◌, ℕ, suc, ◌+◌, ◌^◌, ◌<◌, ◌≤◌, IfSome, zero, take, Bool, true, false, List, [], ◌∷◌, ◌++◌, Option, Some, None, ◌⊎◌, inl, inr, refl, sym, ap, ◌∙◌, subst, slice_get, slice_set, length, replicate, count_by, cond, arith}
 use Rattle.std.proofs.lemmas.Bool.{cases_lt, cases_Bool, true≢false}
 use Rattle.std.proofs.lemmas.List.Sums.{sum_by-cons}
 use Rattle.std.proofs.lemmas.Option.{slice_get_within, slice_get-map}
@@ -14,29 +14,31 @@ use Rattle.ms_record.specs.declared.record.Record.{Record}
 use Rattle.ms_record.specs.declared.record.Record.TheVariants.{Prepare, Accept}
 use Rattle.ms_record.specs.declared.setting.Setting.{Setting}
 use Rattle.ms_record.specs.Ballots.{IsBelow, IsAtMost}
-use Rattle.ms_record.specs.Chains.{LinksOn, IsLinked, all_services, last_name, generation_in}
+use Rattle.ms_record.specs.Chains.{GoesOn, LinksBehind, IsLinked, last_name, plan_after, plan_in, voters_behind}
 use Rattle.ms_record.specs.Entries.{IsEntry, name_of}
 use Rattle.ms_record.specs.Offers.{IsOfGreatest, IsOffered}
-use Rattle.ms_record.specs.Plans.{PlanView, IsPlan}
+use Rattle.ms_record.specs.Plans.{PlanView, IsPlan, no_plan}
 use Rattle.ms_record.specs.Records.{IsRecord}
-use Rattle.ms_record.specs.Settings.{IsSetting, origin_of, plan_after, plan_in}
-use Rattle.ms_record.specs.Votes.{ballot_of, IsPromised, IsBest, ChosenBy, services_below}
-use Rattle.ms_core.specs.Valid.{IsValid, votes_of_logs}
-use Rattle.ms_world.specs.Worlds.{ClientView, RequestView, WorldView, log_of, votes_of_world, known_votes, offers_of, offers_in, to_all, ballot_of_round, next_of, last_of}
+use Rattle.ms_record.specs.Settings.{IsSetting, genesis_plan, origin_of}
+use Rattle.ms_record.specs.Votes.{ballot_of, IsPromised, IsBest, ChosenBy}
+use Rattle.ms_core.specs.Valid.{IsValid, plan_behind, votes_of_logs}
+use Rattle.ms_core.specs.Placing.{IsPlaced}
+use Rattle.ms_core.proofs.Voters.{AreKnown, first_known}
+use Rattle.ms_record.specs.Growing.{justified_grows}
+use Rattle.ms_world.specs.Worlds.{ClientView, RequestView, WorldView, log_of, votes_of_world, known_votes, offers_of, offers_in, to_all, ballot_of_round, next_of, last_of, plan_of_client, voters_of_client}
 use Rattle.ms_core.proofs.Laws.{Laws}
 use Rattle.ms_core.proofs.Places.{some_same, append_left, append_cases, alone}
 use Rattle.ms_world.proofs.Logs.{known_grows}
-use Rattle.std.specs.List.{range_with_len}
 use Rattle.std.specs.Option.{option_map}
 use Rattle.sha2.proofs.Facts256.{length-sha256}
 use Rattle.ms_world.specs.declared.event.Event.TheVariants as events
 use Rattle.ms_world.specs.declared.event.Push.{Push}
-use Rattle.ms_world.specs.Steps.{IsPlacedByPuts, IsPlacedNow, WantIsPlaced, pushed, last_version, version_of, turned, bidding, with_bid, bid_made, CanBid, FitsNow, StartStep, StopStep, BidStep, TurnStep, ReadStep, OfferStep, IsEvent}
+use Rattle.ms_world.specs.Steps.{IsPlacedByPuts, IsPlacedNow, WantIsPlaced, pushed, last_version, version_of, in_format, planned, turn_plan, turned, migrated_plan, migrated, bidding, with_bid, bid_made, CanBid, FitsNow, IsUnmigrated, StartStep, StopStep, BidStep, TurnStep, MigrateStep, ReadStep, OfferStep, IsEvent}
 use Rattle.ms_world.proofs.Invariant.{IsAccept, IsWanted, IsBid, ClientOk, Inv}
 use Rattle.ms_world.proofs.Keeping.{MayOffer, keeps_silent, keeps_quiet}
 
 -- no member at all
-pub none_linked : (setting : Setting) (logs : ℕ → List LogEvent) → IsLinked (votes_of_logs logs) (all_services setting.services) (origin_of setting) []
+pub none_linked : (setting : Setting) (logs : ℕ → List LogEvent) → IsLinked (votes_of_logs logs) (origin_of setting) []
 none_linked setting logs = record { chosen = λ i e g. absurd (let q : None ≡ Some e = g in cc); links = λ i e g. absurd (let q : None ≡ Some e = g in cc) }
 
 no_bid : (setting : Setting) (logs : ℕ → List LogEvent) (client : ℕ) (c : ClientView) → c.bid ≡ None → (bid : Bidding) → c.bid ≡ Some bid → IsBid setting logs client c bid
@@ -56,7 +58,7 @@ same_client setting logs client c d ek eo ec eb ok = record {
   accepts = λ i r g. ok.accepts i r (ap (λ (l : List Record). slice_get l i) (sym eo) ∙ g);
   own = λ i r g. let o = ok.own i r (ap (λ (l : List Record). slice_get l i) (sym eo) ∙ g) in (o.0, omega (arith, o.1, ek));
   rising = λ i j r q l gr gq. ok.rising i j r q l (ap (λ (xs : List Record). slice_get xs i) (sym eo) ∙ gr) (ap (λ (xs : List Record). slice_get xs j) (sym eo) ∙ gq);
-  linked = subst (λ (l : List Entry). IsLinked (votes_of_logs logs) (all_services setting.services) (origin_of setting) l) (sym ec) ok.linked;
+  linked = subst (λ (l : List Entry). IsLinked (votes_of_logs logs) (origin_of setting) l) (sym ec) ok.linked;
   bid = λ bid e. let b = ok.bid bid (sym eb ∙ e) in record {
     at = b.at ∙ ap (λ (l : List Entry). length l + 1) (sym ec);
     last = b.last;
@@ -67,10 +69,8 @@ same_client setting logs client c d ek eo ec eb ok = record {
     want = λ w is. let x = b.want w is in record {
       own = x.own;
       fits = x.fits;
-      links = subst (λ (l : List Entry). LinksOn (last_name (name_of setting.genesis) l) (generation_in 1 l) setting.services w) (sym ec) x.links;
-      plan = x.plan;
-      plan_is = ap (λ (l : List Entry). plan_after (plan_in setting.genesis.plan l) w.plan) ec ∙ x.plan_is;
-      placed = x.placed;
+      links = subst (λ (l : List Entry). LinksBehind (origin_of setting) l w) (sym ec) x.links;
+      placed = subst (λ (l : List Entry). IsPlaced logs (plan_behind setting l w) w.version) (sym ec) x.placed;
     };
   };
 }
@@ -86,9 +86,9 @@ keeps_read setting old client service upto new s h =
     subst (λ (w : WorldView). Inv setting w) (sym s.becomes)
     (keeps_quiet setting old client s.c d h s.up.is refl (same_client setting (log_of old) client s.c d refl refl refl refl (h.clients client s.c s.up.is)))
 
-pub message_of_all : (services : ℕ) (m : Record) (i : ℕ) (q : RequestView) → slice_get (to_all services m) i ≡ Some q → q.message ≡ m
-message_of_all services m i q h =
-    go (slice_get (range_with_len 0 services) i) (sym (slice_get-map (λ s. let r : RequestView = record { service = s; message = m } in r) (range_with_len 0 services) i) ∙ h)
+pub message_of_all : (voters : List ℕ) (m : Record) (i : ℕ) (q : RequestView) → slice_get (to_all voters m) i ≡ Some q → q.message ≡ m
+message_of_all voters m i q h =
+    go (slice_get voters i) (sym (slice_get-map (λ s. let r : RequestView = record { service = s; message = m } in r) voters i) ∙ h)
   where
     go : (o : Option ℕ) → option_map (λ s. let r : RequestView = record { service = s; message = m } in r) o ≡ Some q → q.message ≡ m
     go None e = (let w : None ≡ Some q = e in cc)
@@ -105,7 +105,8 @@ bid_keeps setting old client round c want few can wanted h =
     let bid : Bidding = bidding c round want in
     let d : ClientView = with_bid c round want in
     let m : Record = Prepare (next_of c) (ballot_of_round client round) in
-    keeps_silent setting old client c d (to_all setting.services m) h can.up.is refl (record {
+    let voters = voters_of_client setting c in
+    keeps_silent setting old client c d (to_all voters m) h can.up.is refl (record {
       known = ok.known;
       accepts = ok.accepts;
       own = λ i r g. ((ok.own i r g).0, omega (arith, (ok.own i r g).1, can.above.0));
@@ -118,11 +119,11 @@ bid_keeps setting old client round c want few can wanted h =
         some_round = omega (arith, can.above.0);
         last_round = can.above.1;
         fresh = λ f i r g. omega (arith, (ok.own i r g).1, can.above.0);
-        want = λ w is. let x = wanted w is in record { own = x.own; fits = x.fits; links = x.links; plan = x.plan; plan_is = x.plan_is; placed = x.placed };
+        want = λ w is. let x = wanted w is in record { own = x.own; fits = x.fits; links = x.links; placed = x.placed };
       });
     })
-    (λ i q k b e g a. prepare_or_not (next_of c) k (ballot_of_round client round) b e (sym (message_of_all setting.services m i q g) ∙ a))
-    (λ i q g. subst IsRecord (sym (message_of_all setting.services m i q g))
+    (λ i q k b e g a. prepare_or_not (next_of c) k (ballot_of_round client round) b e (sym (message_of_all voters m i q g) ∙ a))
+    (λ i q g. subst IsRecord (sym (message_of_all voters m i q g))
     ((omega arith, can.position), record { some_round = omega (arith, can.above.0); last_round = can.above.1; client = omega (arith, few, ok.known) }))
 
 -- names of members have 32 bytes
@@ -130,23 +131,13 @@ last_name_long : (name : List ℕ) (c : List Entry) → length name ≡ 32 → l
 last_name_long name [] h = h
 last_name_long name (e ∷ es) h = last_name_long (name_of e) es (length-sha256 _)
 
-after_found : (before o : Option PlanView) (plan : PlanView) → before ≡ Some plan → (p : PlanView) × (plan_after before o ≡ Some p)
-after_found before None plan e = (plan, e)
-after_found before (Some q) plan e = (q, refl)
-
-pub plan_found : (before : Option PlanView) (c : List Entry) (plan : PlanView) → before ≡ Some plan → (p : PlanView) × (plan_in before c ≡ Some p)
-plan_found before [] plan e = (plan, e)
-plan_found before (x ∷ xs) plan e = let q = after_found before x.plan plan e in plan_found (plan_after before x.plan) xs q.0 q.1
-
 push_wanted : (setting : Setting) (old : WorldView) (client : ℕ) (c : ClientView) (push : Push) → client < 16 → push.number < 2 ^ 32 → length push.version.0 ≡ 32 → IsPlacedNow setting old c push.version
     → IsWanted setting (log_of old) client c (record { before = record { 0 = last_of setting c }; client = record { 0 = client }; number = push.number; version = push.version; plan = None })
 push_wanted setting old client c push low number version placed = record {
   own = refl;
   fits = record { before = last_name_long (name_of setting.genesis) c.chain (length-sha256 _); client = low; number = number; version = version; plan = tt };
   links = record { names = refl; plan = tt };
-  plan = placed.0;
-  plan_is = placed.1;
-  placed = placed.2.placed;
+  placed = placed.placed;
 }
 
 pub keeps_bid : (setting : Setting) (old : WorldView) (client round : ℕ) (want : Option Push) (new : WorldView) → setting.clients ≤ 16 → IsEvent (events.Bid (record { 0 = client }) round want) → BidStep setting old client round want new → Inv setting old → Inv setting new
@@ -173,44 +164,109 @@ counted p (x ∷ xs) h =
       | inr other ↦ counted p xs (omega (arith, count_cons p x xs false other, h))
     ]
 
-pub chosen_offered : (setting : Setting) (w : WorldView) (k : ℕ) (e : Entry) → Inv setting w → ChosenBy (votes_of_world w) (services_below setting.services) k e → (b : Ballot) × IsOffered (offers_in w) k b e
-chosen_offered setting w k e h c =
-    let m = counted c.part (services_below setting.services) (omega (arith, c.majority.more_than_half)) in
+pub chosen_offered : (setting : Setting) (w : WorldView) (voters : List ℕ) (k : ℕ) (e : Entry) → Inv setting w → ChosenBy (votes_of_world w) voters k e → (b : Ballot) × IsOffered (offers_in w) k b e
+chosen_offered setting w voters k e h c =
+    let m = counted c.part voters (omega (arith, c.majority.more_than_half)) in
     let t = c.taken m.0 m.1 in
     (c.ballot, h.listed m.0 t.0 k c.ballot e t.1.stands)
 
-pub member_fits : (setting : Setting) (w : WorldView) (c : List Entry) → Inv setting w → IsLinked (votes_of_world w) (all_services setting.services) (origin_of setting) c
+pub member_fits : (setting : Setting) (w : WorldView) (c : List Entry) → Inv setting w → IsLinked (votes_of_world w) (origin_of setting) c
     → (i : ℕ) (e : Entry) → slice_get c i ≡ Some e → IsEntry e
-member_fits setting w c h linked i e at = let o = chosen_offered setting w (i + 1) e h (linked.chosen i e at) in h.fits (i + 1) o.0 e o.1
+member_fits setting w c h linked i e at = let o = chosen_offered setting w (voters_behind (origin_of setting) (take i c)) (i + 1) e h (linked.chosen i e at) in h.fits (i + 1) o.0 e o.1
 
 version_long : (version : Name) (c : List Entry) → length version.0 ≡ 32 → ((i : ℕ) (e : Entry) → slice_get c i ≡ Some e → IsEntry e) → length (last_version version c).0 ≡ 32
 version_long version [] h each = h
 version_long version (e ∷ es) h each = version_long e.version es (each 0 e refl).version (λ i f at. each (suc i) f at)
 
-turn_wanted : (setting : Setting) (old : WorldView) (client number : ℕ) (c : ClientView) (plan : PlanView) → client < 16 → number < 2 ^ 32 → IsPlan plan → IsEntry setting.genesis → Inv setting old → ClientOk setting (log_of old) client c
-    → FitsNow setting c plan → IsPlacedByPuts old plan (version_of setting c) → IsWanted setting (log_of old) client c (turned setting c client number plan)
-turn_wanted setting old client number c plan low few is genesis h ok fits placed = record {
+-- ---- plan entries
+
+planned_wanted : (setting : Setting) (old : WorldView) (client number : ℕ) (c : ClientView) (version : Name) (plan : PlanView) → client < 16 → number < 2 ^ 32 → length version.0 ≡ 32 → IsPlan plan
+    → FitsNow setting c plan → IsPlacedByPuts old plan version → IsWanted setting (log_of old) client c (planned setting c client number version plan)
+planned_wanted setting old client number c version plan low few long is fits placed = record {
   own = refl;
   fits = record {
     before = last_name_long (name_of setting.genesis) c.chain (length-sha256 _);
     client = low;
     number = few;
-    version = version_long setting.genesis.version c.chain genesis.version (member_fits setting old c.chain h ok.linked);
+    version = long;
     plan = is;
   };
   links = record { names = refl; plan = fits };
-  plan = plan;
-  plan_is = refl;
   placed = placed.placed;
+}
+
+plan_keeps : (first : PlanView) (c : List Entry) → IsPlan first → ((i : ℕ) (e : Entry) → slice_get c i ≡ Some e → IsEntry e) → IsPlan (plan_in first c)
+plan_keeps first [] h each = h
+plan_keeps first (e ∷ es) h each = plan_keeps (plan_after first e.plan) es (after e.plan (each zero e refl).plan) (λ i f at. each (suc i) f at)
+  where
+    after : (o : Option PlanView) → IfSome o IsPlan → IsPlan (plan_after first o)
+    after None n = h
+    after (Some plan) n = n
+
+-- the plan in force behind a client's chain keeps the plan rules
+pub client_plan : (setting : Setting) (w : WorldView) (client : ℕ) (c : ClientView) → IsSetting setting → Inv setting w → ClientOk setting (log_of w) client c → IsPlan (plan_of_client setting c)
+client_plan setting w client c set h ok =
+    let first : IfSome (Some set.plan) IsPlan = subst (λ (o : Option PlanView). IfSome o IsPlan) set.plan_is set.genesis.plan in
+    plan_keeps (genesis_plan setting) c.chain (subst (λ (o : Option PlanView). IsPlan (plan_after no_plan o)) (sym set.plan_is) first) (member_fits setting w c.chain h ok.linked)
+
+-- a plan in another format keeps the rules
+pub format_keeps : (plan : PlanView) (format : ℕ) → IsPlan plan → 1 ≤ format → format ≤ 2 → IsPlan (in_format format plan)
+format_keeps plan format h some last = record {
+  some_generation = h.some_generation;
+  last_generation = h.last_generation;
+  some_format = some;
+  last_format = last;
+  some_unit = h.some_unit;
+  unit = h.unit;
+  some_rows = h.some_rows;
+  few_rows = h.few_rows;
+  some_replicas = h.some_replicas;
+  few_replicas = h.few_replicas;
+  rows = h.rows;
+  rising = h.rising;
 }
 
 pub keeps_turn : (setting : Setting) (old : WorldView) (client round number : ℕ) (plan : PlanView) (new : WorldView) → IsSetting setting → (number < 2 ^ 32) × IsPlan plan
     → TurnStep setting old client round number plan new → Inv setting old → Inv setting new
 keeps_turn setting old client round number plan new set fits s h =
     let ok = h.clients client s.c s.can.up.is in
-    let w = turn_wanted setting old client number s.c plan (omega (arith, set.few_clients, ok.known)) fits.0 fits.1 set.genesis h ok s.fits s.placed in
+    let now = client_plan setting old client s.c set h ok in
+    let long = version_long setting.genesis.version s.c.chain set.genesis.version (member_fits setting old s.c.chain h ok.linked) in
+    let w = planned_wanted setting old client number s.c (version_of setting s.c) (turn_plan setting s.c plan) (omega (arith, set.few_clients, ok.known)) fits.0 long
+    (format_keeps plan (plan_of_client setting s.c).format fits.1 now.some_format now.last_format) s.fits s.placed in
     subst (λ (w : WorldView). Inv setting w) (sym s.becomes)
     (bid_keeps setting old client round s.c (Some (turned setting s.c client number plan)) set.few_clients s.can (λ e is. subst (λ (x : Entry). IsWanted setting (log_of old) client s.c x) (some_same _ e is) w) h)
+
+known_next : (services : ℕ) (plan : PlanView) (generation format : ℕ) (o : Option PlanView) → AreKnown services plan → IfSome o (GoesOn generation format services) → AreKnown services (plan_after plan o)
+known_next services plan generation format None known goes = known
+known_next services plan generation format (Some next) known goes = goes.known
+
+known_behind : (services : ℕ) (plan : PlanView) (c : List Entry) → AreKnown services plan → ((i : ℕ) (e : Entry) → slice_get c i ≡ Some e → (generation : ℕ) × (format : ℕ) × IfSome e.plan (GoesOn generation format services))
+    → AreKnown services (plan_in plan c)
+known_behind services plan [] known each = known
+known_behind services plan (e ∷ es) known each =
+    let first = each zero e refl in
+    known_behind services (plan_after plan e.plan) es (known_next services plan first.0 first.1 e.plan known first.2) (λ i f at. each (suc i) f at)
+
+-- the plan in force fits once more, in format 2
+migrated_fits : (setting : Setting) (old : WorldView) (client : ℕ) (c : ClientView) → IsSetting setting → ClientOk setting (log_of old) client c → IsUnmigrated setting c → FitsNow setting c (migrated_plan setting c)
+migrated_fits setting old client c set ok first = record {
+  known = known_behind setting.services (genesis_plan setting) c.chain (first_known setting set)
+      (λ i e at. ((plan_in (genesis_plan setting) (take i c.chain)).generation, (plan_in (genesis_plan setting) (take i c.chain)).format, (ok.linked.links i e at).plan));
+  known_format = omega arith;
+  format_stays = omega (arith, first);
+  not_below = omega arith;
+}
+
+pub keeps_migrate : (setting : Setting) (old : WorldView) (client round number : ℕ) (version : Name) (new : WorldView) → IsSetting setting → (number < 2 ^ 32) × (length version.0 ≡ 32)
+    → MigrateStep setting old client round number version new → Inv setting old → Inv setting new
+keeps_migrate setting old client round number version new set fits s h =
+    let ok = h.clients client s.c s.can.up.is in
+    let now = client_plan setting old client s.c set h ok in
+    let w = planned_wanted setting old client number s.c version (migrated_plan setting s.c) (omega (arith, set.few_clients, ok.known)) fits.0 fits.1
+    (format_keeps (plan_of_client setting s.c) 2 now (omega arith) (omega arith)) (migrated_fits setting old client s.c set ok s.first) s.placed in
+    subst (λ (w : WorldView). Inv setting w) (sym s.becomes)
+    (bid_keeps setting old client round s.c (Some (migrated setting s.c client number version)) set.few_clients s.can (λ e is. subst (λ (x : Entry). IsWanted setting (log_of old) client s.c x) (some_same _ e is) w) h)
 
 -- ---- offers
 
@@ -272,30 +328,30 @@ may_offer l setting w client new s h =
         | inl g ↦ subst IsEntry (sym g.entry_is) (h.fits k g.vote.ballot g.vote.entry (greatest g))
         | inr o ↦ (b.want s.entry o.0).fits
       ];
-      justified = l.justified (known_votes w s.c) (votes_of_world w) (services_below setting.services) k ballot s.entry (known_grows w s.c) (record {
-        part = s.promises.part;
-        bests = s.promises.bests;
-        majority = s.promises.majority;
-        shown = λ t m. let x = s.promises.shown t m in record {
-          place = x.0;
-          first = x.1;
-          best_is = x.2;
-          below = λ v e. best_below setting w client s.c s.bid t x.0 (s.promises.bests t) v h s.has.up.is s.has.has s.has.fresh x.1.promised x.2 e;
-        };
-        entry_is = elim s.offers [
-          | inl g ↦ inl g
-          | inr o ↦ inr (record { none = o.1; client_is = same_client_id s.entry.client ballot.client (b.want s.entry o.0).own })
-        ];
-      });
+      justified = record {
+        members = s.c.chain;
+        linked = (h.clients client s.c s.has.up.is).linked;
+        at = b.at;
+        justified = justified_grows (known_votes w s.c) (votes_of_world w) (voters_of_client setting s.c) k ballot s.entry (known_grows w s.c) (record {
+          part = s.promises.part;
+          bests = s.promises.bests;
+          majority = s.promises.majority;
+          shown = λ t m. let x = s.promises.shown t m in record {
+            place = x.0;
+            first = x.1;
+            best_is = x.2;
+            below = λ v e. best_below setting w client s.c s.bid t x.0 (s.promises.bests t) v h s.has.up.is s.has.has s.has.fresh x.1.promised x.2 e;
+          };
+          entry_is = elim s.offers [
+            | inl g ↦ inl g
+            | inr o ↦ inr (record { none = o.1; client_is = same_client_id s.entry.client ballot.client (b.want s.entry o.0).own })
+          ];
+        });
+      };
       valid = elim s.offers [
         | inl g ↦ subst (λ (e : Entry). IsValid setting (log_of w) k e) (sym g.entry_is) (h.valid k g.vote.ballot g.vote.entry (greatest g))
         | inr o ↦ (let x = b.want s.entry o.0 in record {
-          members = s.c.chain;
-          linked = (h.clients client s.c s.has.up.is).linked;
-          at = b.at;
-          links = x.links;
-          plan = x.plan;
-          plan_is = x.plan_is;
+          next = record { members = s.c.chain; linked = (h.clients client s.c s.has.up.is).linked; at = b.at; links = x.links };
           placed = x.placed;
         })
       ];
@@ -336,6 +392,6 @@ offer_client l setting w client new s h =
         some_round = b.some_round;
         last_round = b.last_round;
         fresh = λ f. absurd (let z : true ≡ false = f in true≢false z);
-        want = λ e is. let x = b.want e is in record { own = x.own; fits = x.fits; links = x.links; plan = x.plan; plan_is = x.plan_is; placed = x.placed };
+        want = λ e is. let x = b.want e is in record { own = x.own; fits = x.fits; links = x.links; placed = x.placed };
       });
     }

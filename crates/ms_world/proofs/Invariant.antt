@@ -9,18 +9,17 @@ use Rattle.ms_record.specs.declared.log.LogEvent.TheVariants.{Drop}
 use Rattle.ms_record.specs.declared.record.Record.{Record}
 use Rattle.ms_record.specs.declared.record.Record.TheVariants.{Prepare, Accept}
 use Rattle.ms_record.specs.declared.setting.Setting.{Setting}
-use Rattle.ms_record.specs.Chains.{LinksOn, IsLinked, all_services, generation_in}
+use Rattle.ms_record.specs.Chains.{LinksBehind, IsLinked}
 use Rattle.ms_record.specs.Entries.{IsEntry}
-use Rattle.ms_record.specs.Offers.{IsOffered, IsSound, JustifiedBy}
-use Rattle.ms_record.specs.Plans.{PlanView}
+use Rattle.ms_record.specs.Offers.{IsOffered, IsSound, IsJustified}
 use Rattle.ms_record.specs.Records.{IsRecord, IsPosition}
-use Rattle.ms_record.specs.Settings.{origin_of, plan_after}
-use Rattle.ms_record.specs.Votes.{ballot_of, services_below}
+use Rattle.ms_record.specs.Settings.{origin_of}
+use Rattle.ms_record.specs.Votes.{ballot_of}
 use Rattle.ms_core.specs.Placing.{IsPlaced}
 use Rattle.ms_world.specs.PutTexts.{ArePutsNamed}
 use Rattle.ms_core.specs.Growth.{linked_grows, placed_grows}
-use Rattle.ms_core.specs.Valid.{IsBacked, IsValid, votes_of_logs}
-use Rattle.ms_world.specs.Worlds.{ClientView, RequestView, WorldView, log_of, votes_of_world, offers_of, offers_in, next_of, last_of, plan_of_client}
+use Rattle.ms_core.specs.Valid.{IsBacked, IsValid, plan_behind, votes_of_logs}
+use Rattle.ms_world.specs.Worlds.{ClientView, RequestView, WorldView, log_of, votes_of_world, offers_of, offers_in, next_of}
 use Rattle.ms_core.proofs.Laws.{Laws}
 use Rattle.ms_core.proofs.Places.{some_same}
 use Rattle.ms_record.specs.Growing.{LogsGrow}
@@ -29,10 +28,8 @@ use Rattle.ms_record.specs.Growing.{LogsGrow}
 pub record IsWanted (setting : Setting) (logs : ℕ → List LogEvent) (client : ℕ) (c : ClientView) (e : Entry) : Type 0 where
   pub own : e.client.0 ≡ client
   pub fits : IsEntry e
-  pub links : LinksOn (last_of setting c) (generation_in 1 c.chain) setting.services e
-  pub plan : PlanView
-  pub plan_is : plan_after (plan_of_client setting c) e.plan ≡ Some plan
-  pub placed : IsPlaced logs plan e.version
+  pub links : LinksBehind (origin_of setting) c.chain e
+  pub placed : IsPlaced logs (plan_behind setting c.chain e) e.version
 
 pub record IsBid (setting : Setting) (logs : ℕ → List LogEvent) (client : ℕ) (c : ClientView) (bid : Bidding) : Type 0 where
   pub at : bid.position ≡ next_of c
@@ -53,7 +50,7 @@ pub record ClientOk (setting : Setting) (logs : ℕ → List LogEvent) (client :
   pub accepts : (i : ℕ) (r : Record) → slice_get c.offers i ≡ Some r → IsAccept r
   pub own : (i : ℕ) (r : Record) → slice_get c.offers i ≡ Some r → ((ballot_of r).client.0 ≡ client) × ((ballot_of r).round ≤ c.kept)
   pub rising : (i j : ℕ) (r q : Record) → i < j → slice_get c.offers i ≡ Some r → slice_get c.offers j ≡ Some q → (ballot_of r).round < (ballot_of q).round
-  pub linked : IsLinked (votes_of_logs logs) (all_services setting.services) (origin_of setting) c.chain
+  pub linked : IsLinked (votes_of_logs logs) (origin_of setting) c.chain
   pub bid : (bid : Bidding) → c.bid ≡ Some bid → IsBid setting logs client c bid
 
 pub record Inv (setting : Setting) (w : WorldView) : Type 0 where
@@ -62,7 +59,7 @@ pub record Inv (setting : Setting) (w : WorldView) : Type 0 where
   pub sent : (i : ℕ) (q : RequestView) (k : ℕ) (b : Ballot) (e : Entry) → slice_get w.requests i ≡ Some q → q.message ≡ Accept k b e → IsOffered (offers_in w) k b e
   pub sent_fits : (i : ℕ) (q : RequestView) → slice_get w.requests i ≡ Some q → IsRecord q.message
   pub fits : (k : ℕ) (b : Ballot) (e : Entry) → IsOffered (offers_in w) k b e → IsEntry e
-  pub justified : (k : ℕ) (b : Ballot) (e : Entry) → IsOffered (offers_in w) k b e → JustifiedBy (votes_of_world w) (services_below setting.services) k b e
+  pub justified : (k : ℕ) (b : Ballot) (e : Entry) → IsOffered (offers_in w) k b e → IsJustified (votes_of_world w) (origin_of setting) k b e
   pub valid : (k : ℕ) (b : Ballot) (e : Entry) → IsOffered (offers_in w) k b e → IsValid setting (log_of w) k e
   pub dropped : (s floor : ℕ) → Contains (log_of w s) (Drop floor) → IsBacked setting (log_of w) floor
   pub positions : (k : ℕ) (b : Ballot) (e : Entry) → IsOffered (offers_in w) k b e → IsPosition k
@@ -75,9 +72,7 @@ wanted_grows setting old new client c e g h = record {
   own = h.own;
   fits = h.fits;
   links = h.links;
-  plan = h.plan;
-  plan_is = h.plan_is;
-  placed = placed_grows old new h.plan e.version g h.placed;
+  placed = placed_grows old new (plan_behind setting c.chain e) e.version g h.placed;
 }
 
 bid_grows : (setting : Setting) (old new : ℕ → List LogEvent) (client : ℕ) (c : ClientView) (bid : Bidding) → LogsGrow old new → IsBid setting old client c bid → IsBid setting new client c bid
@@ -121,10 +116,10 @@ one_in setting logs client (Some c) ok i j r q gr gq e = one_place setting logs 
 entry_in : (k : ℕ) (b : Ballot) (e f : Entry) → Accept k b e ≡ Accept k b f → e ≡ f
 entry_in k b e f h = cc
 
-pub sound : (setting : Setting) (w : WorldView) (k : ℕ) → Inv setting w → IsSound (votes_of_world w) (offers_in w) (services_below setting.services) k
-sound setting w k h = record {
-  one_offer = λ b e f x y.
+pub sound : (setting : Setting) (w : WorldView) → Inv setting w → IsSound (votes_of_world w) (offers_in w) (origin_of setting)
+sound setting w h = record {
+  one_offer = λ k b e f x y.
       entry_in k b e f (one_in setting (log_of w) b.client.0 (slice_get w.clients b.client.0) (λ c g. h.clients b.client.0 c g) x.0 y.0 (Accept k b e) (Accept k b f) x.1 y.1 refl);
-  taken_offered = λ s p b e t. h.listed s p k b e t.stands;
-  justified = λ b e o. h.justified k b e o;
+  taken_offered = λ s p k b e t. h.listed s p k b e t.stands;
+  justified = λ k b e o. h.justified k b e o;
 }

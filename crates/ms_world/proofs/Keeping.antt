@@ -11,15 +11,15 @@ use Rattle.ms_record.specs.declared.record.Record.TheVariants.{Accept}
 use Rattle.ms_record.specs.declared.setting.Setting.{Setting}
 use Rattle.ms_record.specs.Entries.{IsEntry}
 use Rattle.ms_record.specs.Logs.{votes_in}
-use Rattle.ms_record.specs.Offers.{GrowsTo, IsOffered, JustifiedBy}
+use Rattle.ms_record.specs.Offers.{GrowsTo, IsOffered, IsJustified}
 use Rattle.ms_record.specs.Records.{IsRecord, IsPosition}
-use Rattle.ms_record.specs.Votes.{services_below}
+use Rattle.ms_record.specs.Settings.{origin_of}
 use Rattle.ms_core.specs.Valid.{IsValid}
 use Rattle.ms_world.specs.Worlds.{ClientView, RequestView, WorldView, log_of, votes_of_world, offers_of, offers_in, changed, logged}
 use Rattle.sha2.specs.Sha256.{sha256}
 use Rattle.ms_core.proofs.Laws.{Laws}
 use Rattle.ms_core.proofs.Places.{same_or_not, some_same, append_left, append_cases, set_here, set_there}
-use Rattle.ms_record.specs.Growing.{votes_append, votes_grow}
+use Rattle.ms_record.specs.Growing.{is_justified_grows, votes_append, votes_grow}
 use Rattle.ms_core.specs.Growth.{valid_grows, backed_grows}
 use Rattle.ms_core.specs.Valid.{IsBacked}
 use Rattle.ms_world.proofs.Logs.{logged_at, logged_grows, logged_cases}
@@ -61,7 +61,7 @@ offered_cases old client c d sent more is adds k b e h =
 pub record MayOffer (setting : Setting) (w : WorldView) (k : ℕ) (b : Ballot) (e : Entry) : Type 0 where
   pub at : IsPosition k
   pub fits : IsEntry e
-  pub justified : JustifiedBy (votes_of_world w) (services_below setting.services) k b e
+  pub justified : IsJustified (votes_of_world w) (origin_of setting) k b e
   pub valid : IsValid setting (log_of w) k e
 
 -- one client changes as it may
@@ -135,7 +135,7 @@ keeps_logged l setting old t event h vote_ok drop_ok put_ok =
       sent = h.sent;
       sent_fits = h.sent_fits;
       fits = h.fits;
-      justified = λ k b e o. l.justified (votes_of_world old) (votes_of_world after) (services_below setting.services) k b e v (h.justified k b e o);
+      justified = λ k b e o. is_justified_grows (votes_of_world old) (votes_of_world after) (origin_of setting) k b e v (h.justified k b e o);
       valid = λ k b e o. valid_grows setting (log_of old) (log_of after) k e g (h.valid k b e o);
       dropped = λ s floor has. backed_grows setting (log_of old) (log_of after) floor g (elim (logged_cases old t event s (Drop floor) has) [
         | inl there ↦ h.dropped s floor there

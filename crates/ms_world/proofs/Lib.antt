@@ -21,3 +21,4 @@ pub mod Wanting
 pub mod Fronts
 pub mod Offering
 pub mod Supporting
+pub mod Voting

@@ -14,7 +14,7 @@ use Rattle.ms_record.specs.Votes.{IsMajority, services_below}
 use Rattle.ms_core.proofs.Voters.{below_voter, voter_below, count_cons, count_le}
 
 -- counting the services is counting the list of their answers
-count_agree : {X : Type 0} (p : X → Bool) (q : ℕ → Bool) (xs : List X) (a : ℕ) → ((i : ℕ) (x : X) → slice_get xs i ≡ Some x → q (a + i) ≡ p x) → count_by q (range_with_len a (length xs)) ≡ count_by p xs
+pub count_agree : {X : Type 0} (p : X → Bool) (q : ℕ → Bool) (xs : List X) (a : ℕ) → ((i : ℕ) (x : X) → slice_get xs i ≡ Some x → q (a + i) ≡ p x) → count_by q (range_with_len a (length xs)) ≡ count_by p xs
 count_agree p q [] a h = refl
 count_agree p q (x ∷ xs) a h =
     let at : q a ≡ p x = ap q (let e : a ≡ a + 0 = omega arith in e) ∙ h zero x refl in

@@ -11,7 +11,7 @@ use Rattle.std.proofs.lemmas.Slice.Eq.{bytes_eq-Decides}
 use Rattle.ms_base.specs.declared.names.Name.{Name}
 use Rattle.ms_core.specs.declared.want.Want.{Want}
 use Rattle.ms_core.specs.declared.want.Wanted.TheVariants.{Version}
-use Rattle.ms_core.specs.Placing.{HasObject, OnEnough, want_of, wanted_in}
+use Rattle.ms_core.specs.Placing.{HasObject, OnEnough, want_of, wanted_in, IsOfFormat, format_of}
 use Rattle.ms_world.specs.PutTexts.{ArePutsNamed, IsPlacedInLogs, text_of_puts}
 use Rattle.ms_world.specs.Puts.{PutsView, Knows, found_at, text_found, is_on}
 use Rattle.ms_world.specs.Reaching.{IsThere, Meets, Reaches}
@@ -107,9 +107,15 @@ stored wants logs g name text e =
 
 -- ---- what the puts say
 
-module _ (logs : List (List LogEvent)) (plan : PlanView) (version : Name) (puts : PutsView) (knows : Knows logs plan.generation puts) where
+module _ (logs : List (List LogEvent)) (plan : PlanView) (version : Name) (puts : PutsView) (knows : Knows logs plan.generation puts) (one : OneValue) where
   text_known : (name : Name) (text : List ℕ) → text_found (found_at puts name) ≡ Some text → text_of_puts logs plan.generation name ≡ Some text
   text_known name text e = sym (knows.texts name) ∙ e
+
+  -- what the store has is of the plan's format
+  format_there : (p : IsPlacedInLogs logs plan version) (want : Want) (has : HasObject p.placed.store want.name want.wanted) → format_of has.object ≡ plan.format
+  format_there p want has =
+      let is = p.placed.holds.formats want.name has.text has.is in
+      ap format_of (one has.text has.object is.object has.spells is.spells) ∙ is.format_is
 
   -- what is needed is there
   there_if_needed : IsPlan plan → (p : IsPlacedInLogs logs plan version) (want : Want) → HasObject p.placed.store want.name want.wanted → IsThere puts plan want
@@ -118,7 +124,7 @@ module _ (logs : List (List LogEvent)) (plan : PlanView) (version : Name) (puts 
       record {
         text = has.text;
         is = knows.texts want.name ∙ p.texts want.name has.text has.is;
-        read = record { object = has.object; spells = has.spells; kind = has.kind };
+        read = record { object = has.object; spells = has.spells; format_is = format_there p want has; kind = has.kind };
         enough = omega (
           arith,
           on.enough,
@@ -133,7 +139,7 @@ module _ (logs : List (List LogEvent)) (plan : PlanView) (version : Name) (puts 
       → All (λ (w : Want). HasObject p.placed.store w.name w.wanted) (wanted_in there.read.object)
   names_needed p want there has =
       let text_is : Some has.text ≡ Some there.text = sym (p.texts want.name has.text has.is) ∙ text_known want.name there.text there.is in
-      p.placed.below want.name there.text there.read.object (has.is ∙ text_is) there.read.spells
+      p.placed.holds.below want.name there.text there.read.object (has.is ∙ text_is) there.read.spells
 
   pub walked_fails : (wants : List Want) (place : ℕ) (want : Want) → IsPlan plan → Walked logs plan version puts wants place → slice_get wants place ≡ Some want
       → (IsThere puts plan want → ⊥) → IsPlacedInLogs logs plan version → ⊥
@@ -170,13 +176,16 @@ module _ (logs : List (List LogEvent)) (plan : PlanView) (version : Name) (puts 
         | inr new ↦ absurd (omega (arith, new.1, slice_get_within wants place want at))
       ]
 
-  pub walked_whole : (one : OneValue) (wants : List Want) (place : ℕ) → All ArePutsNamed logs → length wants ≤ place → Walked logs plan version puts wants place → IsPlacedInLogs logs plan version
-  walked_whole one wants place named whole walked = record {
+  pub walked_whole : (wants : List Want) (place : ℕ) → All ArePutsNamed logs → length wants ≤ place → Walked logs plan version puts wants place → IsPlacedInLogs logs plan version
+  walked_whole wants place named whole walked = record {
     placed = record {
       store = store_of wants logs plan.generation;
-      top = has_object (want_of Version version) walked.first;
-      below = below_object;
-      named = λ name text is. text_is_named logs plan.generation name text named (found name text is).text_is;
+      holds = record {
+        top = has_object (want_of Version version) walked.first;
+        formats = of_format;
+        below = below_object;
+        named = λ name text is. text_is_named logs plan.generation name text named (found name text is).text_is;
+      };
       put = λ name text is. let f = found name text is in
           subst (λ (n : Name). OnEnough (λ s. HasPut (slice_index_or logs s []) plan.generation n) plan) f.same (on_enough f.want (done_of f.want f.met));
     };
@@ -198,14 +207,23 @@ module _ (logs : List (List LogEvent)) (plan : PlanView) (version : Name) (puts 
         kind = d.there.read.kind;
       }
 
+      text_there : (name : Name) (text : List ℕ) (f : IsStored wants logs plan.generation name text) (d : Done puts plan wants f.want) → d.there.text ≡ text
+      text_there name text f d =
+          some_same d.there.text text (sym (text_known f.want.name d.there.text d.there.is) ∙ ap (λ (n : Name). text_of_puts logs plan.generation n) f.same ∙ f.text_is)
+
+      of_format : (name : Name) (text : List ℕ) → store_of wants logs plan.generation name.0 ≡ Some text → IsOfFormat plan.format text
+      of_format name text is =
+          let f = found name text is in
+          let d = done_of f.want f.met in
+          let read = d.there.read in
+          record { object = read.object; spells = subst (λ (t : List ℕ). Spells t read.object) (text_there name text f d) read.spells; format_is = read.format_is }
+
       below_object : (name : Name) (text : List ℕ) (object : Object) → store_of wants logs plan.generation name.0 ≡ Some text → Spells text object
           → All (λ (w : Want). HasObject (store_of wants logs plan.generation) w.name w.wanted) (wanted_in object)
       below_object name text object is spells =
           let f = found name text is in
           let d = done_of f.want f.met in
-          let text_is : Some d.there.text ≡ Some text =
-          sym (text_known f.want.name d.there.text d.there.is) ∙ ap (λ (n : Name). text_of_puts logs plan.generation n) f.same ∙ f.text_is in
-          let read : Spells text d.there.read.object = subst (λ (t : List ℕ). Spells t d.there.read.object) (some_same d.there.text text text_is) d.there.read.spells in
+          let read : Spells text d.there.read.object = subst (λ (t : List ℕ). Spells t d.there.read.object) (text_there name text f d) d.there.read.spells in
           subst (λ (o : Object). All (λ (w : Want). HasObject (store_of wants logs plan.generation) w.name w.wanted) (wanted_in o)) (one text d.there.read.object object read spells)
           (All-weaker (Contains wants) (λ (w : Want). HasObject (store_of wants logs plan.generation) w.name w.wanted) has_object (wanted_in d.there.read.object) d.met)
 
@@ -229,6 +247,6 @@ walked_first logs plan version puts wants meets = record {
   first = All-head (Contains wants) (want_of Version version) [] meets.all;
   done = λ i w below is. absurd (omega arith);
   needed = λ p. let H : Want → Type 0 = λ w. HasObject p.placed.store w.name w.wanted in
-      let top : All H (want_of Version version ∷ []) = All-cons H (want_of Version version) [] p.placed.top (All-nil H) in
+      let top : All H (want_of Version version ∷ []) = All-cons H (want_of Version version) [] p.placed.holds.top (All-nil H) in
       subst (All H) (sym meets.behind) (All-weaker (Contains (want_of Version version ∷ [])) H (λ w. All-contains H (want_of Version version ∷ []) w top) meets.more meets.only);
 }

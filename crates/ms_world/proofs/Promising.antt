@@ -157,16 +157,16 @@ module _ (votes : ℕ → List Record) (k : ℕ) (b : Ballot) (n count : ℕ) (g
   none_offered want most is own entry (inr w) = (let q : None ≡ Some entry = sym own ∙ w.0 in cc)
 
   -- each ruling, of all logs
-  pub rules_unpromised : (m : ℕ) (want : Option Entry) → n ≡ m → count ≤ m - count → IsRuling votes m k b want Unpromised
-  rules_unpromised m want all half = subst (λ (l : ℕ). IsRuling votes l k b want Unpromised) all (no_majority (omega (arith, all, half)))
+  pub rules_unpromised : (m : ℕ) (want : Option Entry) → n ≡ m → count ≤ m - count → IsRuling votes (services_below m) k b want Unpromised
+  rules_unpromised m want all half = subst (λ (l : ℕ). IsRuling votes (services_below l) k b want Unpromised) all (no_majority (omega (arith, all, half)))
 
-  pub rules_greatest : (m : ℕ) (want : Option Entry) (vote : Vote) → n ≡ m → m - count < count → greatest ≡ Some vote → IsRuling votes m k b want (Offer vote.entry)
-  rules_greatest m want vote all most is = subst (λ (l : ℕ). IsRuling votes l k b want (Offer vote.entry)) all (promises_of (omega (arith, all, most)), inl (greatest_offered vote is))
+  pub rules_greatest : (m : ℕ) (want : Option Entry) (vote : Vote) → n ≡ m → m - count < count → greatest ≡ Some vote → IsRuling votes (services_below m) k b want (Offer vote.entry)
+  rules_greatest m want vote all most is = subst (λ (l : ℕ). IsRuling votes (services_below l) k b want (Offer vote.entry)) all (promises_of (omega (arith, all, most)), inl (greatest_offered vote is))
 
-  pub rules_own : (m : ℕ) (want : Option Entry) (entry : Entry) → n ≡ m → m - count < count → greatest ≡ None → want ≡ Some entry → IsRuling votes m k b want (Offer entry)
-  rules_own m want entry all most is own = subst (λ (l : ℕ). IsRuling votes l k b want (Offer entry)) all (promises_of (omega (arith, all, most)), inr (own, λ s _. none_seen is s))
+  pub rules_own : (m : ℕ) (want : Option Entry) (entry : Entry) → n ≡ m → m - count < count → greatest ≡ None → want ≡ Some entry → IsRuling votes (services_below m) k b want (Offer entry)
+  rules_own m want entry all most is own = subst (λ (l : ℕ). IsRuling votes (services_below l) k b want (Offer entry)) all (promises_of (omega (arith, all, most)), inr (own, λ s _. none_seen is s))
 
-  pub rules_nothing : (m : ℕ) (want : Option Entry) → n ≡ m → m - count < count → greatest ≡ None → want ≡ None → IsRuling votes m k b want Nothing
+  pub rules_nothing : (m : ℕ) (want : Option Entry) → n ≡ m → m - count < count → greatest ≡ None → want ≡ None → IsRuling votes (services_below m) k b want Nothing
   rules_nothing m want all most is own =
       let enough : n < 2 * count = omega (arith, all, most) in
-      subst (λ (l : ℕ). IsRuling votes l k b want Nothing) all (promises_of enough, none_offered want enough is own)
+      subst (λ (l : ℕ). IsRuling votes (services_below l) k b want Nothing) all (promises_of enough, none_offered want enough is own)

@@ -11,14 +11,15 @@ use Rattle.ms_record.specs.declared.log.LogEvent.TheVariants.{Rec, Put, Drop}
 use Rattle.ms_record.specs.declared.record.Record.{Record}
 use Rattle.ms_record.specs.declared.record.Record.TheVariants.{Prepare, Accept}
 use Rattle.ms_record.specs.declared.setting.Setting.{Setting}
-use Rattle.ms_record.specs.Chains.{IsLinked, IsChain, IsChosen, Agrees, AllNext, Begins, all_services}
+use Rattle.ms_record.specs.Chains.{IsLinked, IsChain, IsChosen, Agrees, AllNext, Begins, voters_behind}
+use Rattle.ms_record.specs.Growing.{chosen_grows}
 use Rattle.ms_record.specs.Logs.{votes_in}
 use Rattle.ms_record.specs.Reading.{with_record}
 use Rattle.ms_record.specs.Records.{IsRecord, record_text}
 use Rattle.ms_record.specs.Settings.{IsSetting, origin_of}
-use Rattle.ms_record.specs.Votes.{ballot_of, services_below}
+use Rattle.ms_record.specs.Votes.{ballot_of}
 use Rattle.ms_core.specs.Valid.{IsValid}
-use Rattle.ms_world.specs.Worlds.{ClientView, WorldView, log_of, votes_of_world, known_votes, offers_of, offers_in, to_all, changed, ballot_of_round, next_of, new_client, start_world}
+use Rattle.ms_world.specs.Worlds.{ClientView, WorldView, log_of, votes_of_world, known_votes, offers_of, offers_in, to_all, changed, ballot_of_round, next_of, voters_of_client, new_client, start_world}
 use Rattle.ms_core.proofs.Laws.{Laws}
 use Rattle.ms_core.proofs.Places.{at_end, alone, set_here, replicate_all, in_none}
 use Rattle.ms_world.proofs.Logs.{known_grows}
@@ -30,7 +31,7 @@ use Rattle.ms_world.specs.Steps.{IsTurned, vote_list, DeliverStep, OfferStep, Le
 use Rattle.ms_core.specs.Valid.{IsBacked}
 use Rattle.ms_world.proofs.Invariant.{ClientOk, Inv, sound}
 use Rattle.ms_world.proofs.Keeping.{MayOffer, keeps_client, keeps_quiet, keeps_logged}
-use Rattle.ms_world.proofs.Events.{none_linked, message_of_all, keeps_start, keeps_stop, keeps_read, keeps_bid, keeps_turn, may_offer, offer_client, chosen_offered}
+use Rattle.ms_world.proofs.Events.{none_linked, message_of_all, keeps_start, keeps_stop, keeps_read, keeps_bid, keeps_turn, keeps_migrate, may_offer, offer_client, chosen_offered}
 
 -- an offer that may be made
 AllOk : Setting → WorldView → Record → Type 0
@@ -45,20 +46,21 @@ keeps_offer l setting old client new set s h =
     let may = may_offer l setting old client new s h in
     let r = Accept s.bid.position (ballot_of_round client s.bid.round) s.entry in
     let d : ClientView = record s.c { offers = s.c.offers ++ r ∷ []; bid = Some (record s.bid { offered = true }) } in
-    let sent = to_all setting.services r in
+    let voters = voters_of_client setting s.c in
+    let sent = to_all voters r in
     let IsIn : Record → Type 0 = λ q. (place : ℕ) × (slice_get (offers_in (changed old client d sent) (ballot_of q).client.0) place ≡ Some q) in
     let there : IsIn r = (length s.c.offers, ap (λ (o : Option ClientView). slice_get (offers_of o) (length s.c.offers)) (set_here old.clients client d s.c s.has.up.is) ∙ at_end s.c.offers r) in
     let fits : IsRecord r = ((omega (arith, b.at), b.last), record { some_round = b.some_round; last_round = b.last_round; client = omega (arith, set.few_clients, ok.known) }, may.fits) in
     subst (λ (w : WorldView). Inv setting w) (sym s.becomes)
     (keeps_client setting old client s.c d sent (r ∷ []) h s.has.up.is refl (offer_client l setting old client new s h)
     (λ i k b e g. let q : r ≡ Accept k b e = (alone r (Accept k b e) i g).1 in subst (λ (x : Record). AllOk setting old x) q may)
-    (λ i q k b e g m. subst IsIn (sym (message_of_all setting.services r i q g) ∙ m) there)
-    (λ i q g. subst IsRecord (sym (message_of_all setting.services r i q g)) fits))
+    (λ i q k b e g m. subst IsIn (sym (message_of_all voters r i q g) ∙ m) there)
+    (λ i q g. subst IsRecord (sym (message_of_all voters r i q g)) fits))
 
 keeps_learn : (l : Laws) (setting : Setting) (old : WorldView) (client : ℕ) (new : WorldView) → LearnStep setting old client new → Inv setting old → Inv setting new
 keeps_learn l setting old client new s h =
     let ok = h.clients client s.c s.up.is in
-    let chosen = l.chosen (known_votes old s.c) (votes_of_world old) (services_below setting.services) (next_of s.c) s.entry (known_grows old s.c) s.can.chosen in
+    let chosen = chosen_grows (known_votes old s.c) (votes_of_world old) (voters_of_client setting s.c) (next_of s.c) s.entry (known_grows old s.c) s.can.chosen in
     subst (λ (w : WorldView). Inv setting w) (sym s.becomes)
     (keeps_quiet setting old client s.c (record s.c { chain = s.c.chain ++ s.entry ∷ []; bid = None }) h s.up.is refl (record {
       known = ok.known;
@@ -137,6 +139,7 @@ keeps_step l setting old (events.Bid client round want) new set fits s h = keeps
     any_client client round None h = tt
     any_client client round (Some push) h = h
 keeps_step l setting old (events.Turn client round number plan) new set fits s h = keeps_turn setting old client.0 round number plan new set fits s h
+keeps_step l setting old (events.Migrate client round number version) new set fits s h = keeps_migrate setting old client.0 round number version new set fits s h
 keeps_step l setting old (events.Deliver request) new set fits s h = keeps_deliver l setting old request new s h
 keeps_step l setting old (events.Read client service upto) new set fits s h = keeps_read setting old client.0 service.0 upto new s h
 keeps_step l setting old (events.Offer client) new set fits s h = keeps_offer l setting old client.0 new set s h
@@ -195,19 +198,19 @@ start_inv setting =
 pub run_inv : (l : Laws) (setting : Setting) (events : List Event) (w : WorldView) → IsSetting setting → All IsEvent events → IsRun setting events w → Inv setting w
 run_inv l setting events w set fit r = keeps_steps l setting (start_world setting) events w set fit r (start_inv setting)
 
-pub inv_agrees : (l : Laws) (setting : Setting) (w : WorldView) → Inv setting w → Agrees (votes_of_world w) setting.services
-inv_agrees l setting w h k e f c d = l.one (votes_of_world w) (offers_in w) (services_below setting.services) k e f (sound setting w k h) c.chosen d.chosen
+pub inv_agrees : (l : Laws) (setting : Setting) (w : WorldView) → Inv setting w → Agrees (votes_of_world w) (origin_of setting)
+inv_agrees l setting w h = l.agrees (votes_of_world w) (offers_in w) (origin_of setting) (sound setting w h)
 
-pub inv_valid : (setting : Setting) (w : WorldView) → Inv setting w → (k : ℕ) (e : Entry) → IsChosen (votes_of_world w) setting.services k e → IsValid setting (log_of w) k e
-inv_valid setting w h k e c = let o = chosen_offered setting w k e h c.chosen in h.valid k o.0 e o.1
+pub inv_valid : (setting : Setting) (w : WorldView) → Inv setting w → (k : ℕ) (e : Entry) → IsChosen (votes_of_world w) (origin_of setting) k e → IsValid setting (log_of w) k e
+inv_valid setting w h k e c = let o = chosen_offered setting w (voters_behind (origin_of setting) c.members) k e h c.chosen in h.valid k o.0 e o.1
 
 pub inv_next : (setting : Setting) (w : WorldView) → Inv setting w → AllNext (votes_of_world w) (origin_of setting)
-inv_next setting w h k e c = let v = inv_valid setting w h k e c in record { members = v.members; linked = v.linked; at = v.at; links = v.links }
+inv_next setting w h k e c = (inv_valid setting w h k e c).next
 
-pub inv_stands : (l : Laws) (setting : Setting) (w : WorldView) (chain : List Entry) → Inv setting w → IsChain (votes_of_world w) (all_services setting.services) (origin_of setting) chain
-    → (i : ℕ) (e : Entry) → IsChosen (votes_of_world w) setting.services (i + 1) e → slice_get chain i ≡ Some e
+pub inv_stands : (l : Laws) (setting : Setting) (w : WorldView) (chain : List Entry) → Inv setting w → IsChain (votes_of_world w) (origin_of setting) chain
+    → (i : ℕ) (e : Entry) → IsChosen (votes_of_world w) (origin_of setting) (i + 1) e → slice_get chain i ≡ Some e
 inv_stands l setting w chain h is i e c = l.stands (votes_of_world w) (origin_of setting) chain i e (inv_agrees l setting w h) (inv_next setting w h) is c
 
-pub inv_begins : (l : Laws) (setting : Setting) (w : WorldView) (a b : List Entry) → Inv setting w → IsLinked (votes_of_world w) (all_services setting.services) (origin_of setting) a
-    → IsLinked (votes_of_world w) (all_services setting.services) (origin_of setting) b → length a ≤ length b → Begins a b
+pub inv_begins : (l : Laws) (setting : Setting) (w : WorldView) (a b : List Entry) → Inv setting w → IsLinked (votes_of_world w) (origin_of setting) a
+    → IsLinked (votes_of_world w) (origin_of setting) b → length a ≤ length b → Begins a b
 inv_begins l setting w a b h la lb short = l.begins (votes_of_world w) (origin_of setting) a b (inv_agrees l setting w h) la lb short

@@ -1,9 +1,10 @@
 -- Which condition of an event is the first that fails.
 use Rattle.std.specs.Prelude.{◌≡◌, ℕ, ◌<◌, ◌≤◌, false, Option, Some, None, length, slice_index_or}
+use Rattle.ms_base.specs.declared.names.Name.{Name}
 use Rattle.ms_world.specs.declared.event.Event.{Event}
 use Rattle.ms_world.specs.declared.event.Event.TheVariants as events
 use Rattle.ms_world.specs.declared.event.Push.{Push}
-use Rattle.ms_world.specs.Steps.{IsUp, IsPlacedByPuts, WantIsPlaced, IsNextPosition, IsNextRound, FitsNow, HasBid, PromisesTo, Offers, CanLearn, IsOpen, IsTurned, version_of, Step}
+use Rattle.ms_world.specs.Steps.{IsUp, IsPlacedByPuts, WantIsPlaced, IsNextPosition, IsNextRound, FitsNow, IsUnmigrated, HasBid, PromisesTo, Offers, CanLearn, IsOpen, IsTurned, version_of, turn_plan, migrated_plan, Step}
 use Rattle.ms_world.specs.Worlds.{ClientView, WorldView, log_of}
 use Rattle.ms_world.specs.declared.client.Bidding.{Bidding}
 use Rattle.ms_record.specs.declared.entry.Entry.{Entry}
@@ -30,9 +31,14 @@ WantFails setting w want whys.Placed c = ¬ WantIsPlaced setting w c want
 WantFails setting w want _ c = ⊥
 
 abbrev pub TurnFails : Setting → WorldView → PlanView → Why → ClientView → Type 0
-TurnFails setting w plan whys.Plan c = ¬ FitsNow setting c plan
-TurnFails setting w plan whys.Placed c = FitsNow setting c plan × (¬ IsPlacedByPuts w plan (version_of setting c))
+TurnFails setting w plan whys.Plan c = ¬ FitsNow setting c (turn_plan setting c plan)
+TurnFails setting w plan whys.Placed c = FitsNow setting c (turn_plan setting c plan) × (¬ IsPlacedByPuts w (turn_plan setting c plan) (version_of setting c))
 TurnFails setting w plan _ c = ⊥
+
+abbrev pub MigrateFails : Setting → WorldView → Name → Why → ClientView → Type 0
+MigrateFails setting w version whys.Plan c = ¬ IsUnmigrated setting c
+MigrateFails setting w version whys.Placed c = IsUnmigrated setting c × (¬ IsPlacedByPuts w (migrated_plan setting c) version)
+MigrateFails setting w version _ c = ⊥
 
 abbrev pub ReadFails : Setting → WorldView → ℕ → ℕ → Why → ClientView → Type 0
 ReadFails setting w service upto whys.Service c = setting.services ≤ service
@@ -58,6 +64,7 @@ IsRefused setting w (events.Start client) _ = ⊥
 IsRefused setting w (events.Stop client) why = NeedsClient w client.0 why (λ c. ⊥)
 IsRefused setting w (events.Bid client round want) why = NeedsClient w client.0 why (λ c. BidFails round why (WantFails setting w want why c) c)
 IsRefused setting w (events.Turn client round number plan) why = NeedsClient w client.0 why (λ c. BidFails round why (TurnFails setting w plan why c) c)
+IsRefused setting w (events.Migrate client round number version) why = NeedsClient w client.0 why (λ c. BidFails round why (MigrateFails setting w version why c) c)
 IsRefused setting w (events.Deliver request) whys.Request = length w.requests ≤ request
 IsRefused setting w (events.Deliver request) _ = ⊥
 IsRefused setting w (events.Read client service upto) why = NeedsClient w client.0 why (λ c. ReadFails setting w service.0 upto why c)

@@ -6,7 +6,7 @@ use Rattle.ms_world.specs.declared.event.Event.{Event}
 use Rattle.ms_world.specs.declared.event.Event.TheVariants as events
 use Rattle.ms_world.specs.declared.event.Push.{Push}
 use Rattle.ms_world.specs.PutTexts.{IsPlacedInLogs}
-use Rattle.ms_world.specs.Worlds.{ClientView, RequestView, WorldView, log_of, votes_of_world, known_votes, to_all, changed, logged, ballot_of_round, next_of, last_of, plan_of_client, start_world}
+use Rattle.ms_world.specs.Worlds.{ClientView, RequestView, WorldView, log_of, votes_of_world, known_votes, to_all, changed, logged, ballot_of_round, next_of, last_of, plan_of_client, voters_of_client, start_world}
 use Rattle.ms_world.specs.declared.client.Bidding.{Bidding}
 use Rattle.ms_record.specs.declared.ballot.Ballot.{Ballot}
 use Rattle.ms_record.specs.declared.ballot.Vote.{Vote}
@@ -17,12 +17,12 @@ use Rattle.ms_record.specs.declared.log.LogEvent.TheVariants.{Rec, Put, Drop}
 use Rattle.ms_record.specs.declared.record.Record.{Record}
 use Rattle.ms_record.specs.declared.record.Record.TheVariants.{Prepare, Accept}
 use Rattle.ms_record.specs.declared.setting.Setting.{Setting}
-use Rattle.ms_record.specs.Chains.{LinksOn, IsChain, GoesOn, all_services, generation_in}
+use Rattle.ms_record.specs.Chains.{LinksBehind, IsChain, GoesOn, generation_in}
 use Rattle.ms_record.specs.Offers.{IsFirstPromised, IsOfGreatest}
 use Rattle.ms_record.specs.Plans.{PlanView, IsPlan}
 use Rattle.ms_record.specs.Records.{record_text}
-use Rattle.ms_record.specs.Settings.{origin_of}
-use Rattle.ms_record.specs.Votes.{IsPromised, IsBest, IsMajority, ChosenBy, services_below}
+use Rattle.ms_record.specs.Settings.{genesis_plan, origin_of}
+use Rattle.ms_record.specs.Votes.{IsPromised, IsBest, IsMajority, ChosenBy}
 
 -- the last position, round and generation
 abbrev pub last_number : ℕ
@@ -39,7 +39,7 @@ IsPlacedByPuts w plan version = IsPlacedInLogs w.logs plan version
 
 -- placed under the plan in force behind a client's chain
 abbrev pub IsPlacedNow : Setting → WorldView → ClientView → Name → Type 0
-IsPlacedNow setting w c version = (plan : PlanView) × (plan_of_client setting c ≡ Some plan) × IsPlacedByPuts w plan version
+IsPlacedNow setting w c version = IsPlacedByPuts w (plan_of_client setting c) version
 
 -- a push is of a version that is placed; a settling bid wants nothing
 abbrev pub WantIsPlaced : Setting → WorldView → ClientView → Option Push → Type 0
@@ -60,10 +60,28 @@ last_version version (e ∷ es) = last_version e.version es
 abbrev pub version_of : Setting → ClientView → Name
 version_of setting c = last_version setting.genesis.version c.chain
 
--- the entry that turns to a plan behind a client's chain
+-- a plan whose objects are written in this format
+abbrev pub in_format : ℕ → PlanView → PlanView
+in_format format plan = record plan { format = format }
+
+-- the plan entry of a version behind a client's chain
+abbrev pub planned : Setting → ClientView → ℕ → ℕ → Name → PlanView → Entry
+planned setting c client number version plan =
+    record { before = record { 0 = last_of setting c }; client = record { 0 = client }; number = number; version = version; plan = Some plan }
+
+-- a turn takes its plan with the format in force, and keeps the version
+abbrev pub turn_plan : Setting → ClientView → PlanView → PlanView
+turn_plan setting c plan = in_format (plan_of_client setting c).format plan
+
 abbrev pub turned : Setting → ClientView → ℕ → ℕ → PlanView → Entry
-turned setting c client number plan =
-    record { before = record { 0 = last_of setting c }; client = record { 0 = client }; number = number; version = version_of setting c; plan = Some plan }
+turned setting c client number plan = planned setting c client number (version_of setting c) (turn_plan setting c plan)
+
+-- a migration keeps the plan in force, with format 2
+abbrev pub migrated_plan : Setting → ClientView → PlanView
+migrated_plan setting c = in_format 2 (plan_of_client setting c)
+
+abbrev pub migrated : Setting → ClientView → ℕ → ℕ → Name → Entry
+migrated setting c client number version = planned setting c client number version (migrated_plan setting c)
 
 -- a new bid, and what it leaves of the client
 abbrev pub bidding : ClientView → ℕ → Option Entry → Bidding
@@ -72,10 +90,10 @@ bidding c round want = record { position = next_of c; round = round; want = want
 abbrev pub with_bid : ClientView → ℕ → Option Entry → ClientView
 with_bid c round want = record c { kept = round; bid = Some (bidding c round want) }
 
--- a bid is made: its round is kept, and each service is asked to promise
+-- a bid is made: its round is kept, and each voter is asked to promise
 abbrev pub bid_made : Setting → WorldView → ℕ → ClientView → ℕ → Option Entry → WorldView
 bid_made setting w client c round want =
-    changed w client (with_bid c round want) (to_all setting.services (Prepare (next_of c) (ballot_of_round client round)))
+    changed w client (with_bid c round want) (to_all (voters_of_client setting c) (Prepare (next_of c) (ballot_of_round client round)))
 
 abbrev pub IsNextPosition : ClientView → Type 0
 IsNextPosition c = next_of c ≤ last_number
@@ -90,9 +108,13 @@ pub record CanBid (w : WorldView) (client round : ℕ) (c : ClientView) : Type 0
   pub position : IsNextPosition c
   pub above : IsNextRound c round
 
--- a plan names only services of the setting, and its generation is not below the one in force behind a client's chain
+-- a plan names only services of the setting, and its generation and format are not below those in force behind a client's chain
 abbrev pub FitsNow : Setting → ClientView → PlanView → Type 0
-FitsNow setting c plan = GoesOn (generation_in 1 c.chain) setting.services plan
+FitsNow setting c plan = GoesOn (plan_of_client setting c).generation (plan_of_client setting c).format setting.services plan
+
+-- objects are written in the first format behind a client's chain
+abbrev pub IsUnmigrated : Setting → ClientView → Type 0
+IsUnmigrated setting c = (plan_of_client setting c).format ≡ 1
 
 -- a client has a bid that it has not offered for yet
 pub record HasBid (w : WorldView) (client : ℕ) (c : ClientView) (bid : Bidding) : Type 0 where
@@ -109,24 +131,24 @@ pub record HasPromises (known : ℕ → List Record) (voters : List ℕ) (positi
   pub others : (s place : ℕ) → Contains voters s → part s ≡ false → IsPromised (known s) place position ballot → ⊥
 
 abbrev pub PromisesTo : Setting → WorldView → ℕ → ClientView → Bidding → Type 0
-PromisesTo setting w client c bid = HasPromises (known_votes w c) (services_below setting.services) bid.position (ballot_of_round client bid.round)
+PromisesTo setting w client c bid = HasPromises (known_votes w c) (voters_of_client setting c) bid.position (ballot_of_round client bid.round)
 
 -- the entry to offer: that of the greatest Best, or the wanted one where there is no Best
 abbrev pub Offers : {known : ℕ → List Record} {voters : List ℕ} {position : ℕ} {ballot : Ballot} → HasPromises known voters position ballot → Option Entry → Entry → Type 0
 Offers promises want entry =
     IsOfGreatest promises.part promises.bests entry ⊎ ((want ≡ Some entry) × ((s : ℕ) → promises.part s ≡ true → promises.bests s ≡ None))
 
--- an offer is declared, and each service is asked to accept it
+-- an offer is declared, and each voter is asked to accept it
 abbrev pub offer_made : Setting → WorldView → ℕ → ClientView → Bidding → Entry → WorldView
 offer_made setting w client c bid entry =
     changed w client
     (record c { offers = c.offers ++ Accept bid.position (ballot_of_round client bid.round) entry ∷ []; bid = Some (record bid { offered = true }) })
-    (to_all setting.services (Accept bid.position (ballot_of_round client bid.round) entry))
+    (to_all (voters_of_client setting c) (Accept bid.position (ballot_of_round client bid.round) entry))
 
--- by what a client knows, the entry is chosen behind its chain and links on to it
+-- by what a client knows of its voters, the entry is chosen behind its chain and links on to it
 pub record CanLearn (setting : Setting) (w : WorldView) (c : ClientView) (entry : Entry) : Type 0 where
-  pub chosen : ChosenBy (known_votes w c) (services_below setting.services) (next_of c) entry
-  pub links : LinksOn (last_of setting c) (generation_in 1 c.chain) setting.services entry
+  pub chosen : ChosenBy (known_votes w c) (voters_of_client setting c) (next_of c) entry
+  pub links : LinksBehind (origin_of setting) c.chain entry
 
 -- a generation that a service takes puts in
 pub record IsOpen (log : List LogEvent) (generation : ℕ) : Type 0 where
@@ -137,7 +159,7 @@ pub record IsOpen (log : List LogEvent) (generation : ℕ) : Type 0 where
 -- the chain of the logs has a plan of at least that generation, or nothing is dropped
 abbrev pub IsTurned : Setting → WorldView → ℕ → Type 0
 IsTurned setting w floor =
-    (floor ≤ 1) ⊎ ((chain : List Entry) × IsChain (votes_of_world w) (all_services setting.services) (origin_of setting) chain × (floor ≤ generation_in 1 chain))
+    (floor ≤ 1) ⊎ ((chain : List Entry) × IsChain (votes_of_world w) (origin_of setting) chain × (floor ≤ generation_in (genesis_plan setting) chain))
 
 abbrev pub vote_list : ListId
 vote_list = record { 0 = 0 }
@@ -162,9 +184,16 @@ pub record BidStep (setting : Setting) (old : WorldView) (client round : ℕ) (w
 pub record TurnStep (setting : Setting) (old : WorldView) (client round number : ℕ) (plan : PlanView) (new : WorldView) : Type 0 where
   pub c : ClientView
   pub can : CanBid old client round c
-  pub fits : FitsNow setting c plan
-  pub placed : IsPlacedByPuts old plan (version_of setting c)
+  pub fits : FitsNow setting c (turn_plan setting c plan)
+  pub placed : IsPlacedByPuts old (turn_plan setting c plan) (version_of setting c)
   pub becomes : new ≡ bid_made setting old client c round (Some (turned setting c client number plan))
+
+pub record MigrateStep (setting : Setting) (old : WorldView) (client round number : ℕ) (version : Name) (new : WorldView) : Type 0 where
+  pub c : ClientView
+  pub can : CanBid old client round c
+  pub first : IsUnmigrated setting c
+  pub placed : IsPlacedByPuts old (migrated_plan setting c) version
+  pub becomes : new ≡ bid_made setting old client c round (Some (migrated setting c client number version))
 
 pub record DeliverStep (old : WorldView) (request : ℕ) (new : WorldView) : Type 0 where
   pub r : RequestView
@@ -211,6 +240,7 @@ Step setting old (events.Start client) new = StartStep setting old client.0 new
 Step setting old (events.Stop client) new = StopStep old client.0 new
 Step setting old (events.Bid client round want) new = BidStep setting old client.0 round want new
 Step setting old (events.Turn client round number plan) new = TurnStep setting old client.0 round number plan new
+Step setting old (events.Migrate client round number version) new = MigrateStep setting old client.0 round number version new
 Step setting old (events.Deliver request) new = DeliverStep old request new
 Step setting old (events.Read client service upto) new = ReadStep setting old client.0 service.0 upto new
 Step setting old (events.Offer client) new = OfferStep setting old client.0 new
@@ -231,6 +261,7 @@ IsRun setting events w = Steps setting (start_world setting) events w
 abbrev pub IsEvent : Event → Type 0
 IsEvent (events.Bid client round (Some push)) = (push.number < 2 ^ 32) × (length push.version.0 ≡ 32)
 IsEvent (events.Turn client round number plan) = (number < 2 ^ 32) × IsPlan plan
+IsEvent (events.Migrate client round number version) = (number < 2 ^ 32) × (length version.0 ≡ 32)
 IsEvent _ = Unit {0}
 
 -- ---- what the code decides of lists of votes

@@ -2,7 +2,7 @@
 use Rattle.ms_world.specs.declared.world.World.TheInside.{Inside}
 use Rattle.ms_world.specs.Held.{HeldView, IsReached}
 use Rattle.ms_world.specs.Worlds.{votes_of_world}
-use Rattle.ms_record.specs.Chains.{IsLinked, all_services}
+use Rattle.ms_record.specs.Chains.{IsLinked}
 use Rattle.ms_record.specs.Settings.{IsSetting, origin_of}
 
 abbrev pub seen : Inside → HeldView
@@ -12,4 +12,4 @@ seen w = record { setting = w.setting; world = w.state; steps = w.steps }
 pub record IsKept (w : Inside) : Type 0 where
   pub set : IsSetting w.setting
   pub reached : IsReached w.setting w.state
-  pub linked : IsLinked (votes_of_world w.state) (all_services w.setting.services) (origin_of w.setting) w.chain
+  pub linked : IsLinked (votes_of_world w.state) (origin_of w.setting) w.chain

@@ -1,18 +1,18 @@
 -- The world: a log per service, all requests ever sent, and the clients.
 use Rattle.std.specs.Prelude.{ℕ, ◌+◌, Bool, false, List, [], ◌∷◌, ◌++◌, Option, Some, None, length, map, slice_get, slice_set, slice_index_or, take, replicate}
-use Rattle.std.specs.List.{range_with_len}
 use Rattle.ms_world.specs.declared.client.Bidding.{Bidding}
 use Rattle.ms_world.specs.declared.client.Request.{Request}
 use Rattle.ms_record.specs.declared.ballot.Ballot.{Ballot}
 use Rattle.ms_record.specs.declared.entry.Entry.{Entry}
 use Rattle.ms_record.specs.declared.log.LogEvent.{LogEvent}
+use Rattle.ms_record.specs.declared.plan.PlanRow.{PlanRow}
 use Rattle.ms_record.specs.declared.record.Record.{Record}
 use Rattle.ms_record.specs.declared.setting.Setting.{Setting}
-use Rattle.ms_record.specs.Chains.{last_name}
+use Rattle.ms_record.specs.Chains.{last_name, plan_in, voters_behind}
 use Rattle.ms_record.specs.Entries.{name_of}
 use Rattle.ms_record.specs.Logs.{votes_in}
 use Rattle.ms_record.specs.Plans.{PlanView}
-use Rattle.ms_record.specs.Settings.{plan_in}
+use Rattle.ms_record.specs.Settings.{genesis_plan, origin_of}
 
 -- a client: on or off, the round that it kept, its declared offers, how much of each log it knows, its chain behind the
 -- genesis, and its bid
@@ -51,9 +51,13 @@ offers_of (Some c) = c.offers
 abbrev pub offers_in : WorldView → ℕ → List Record
 offers_in w c = offers_of (slice_get w.clients c)
 
--- one request to each service, by number
-abbrev pub to_all : ℕ → Record → List RequestView
-to_all services message = map (λ s. let r : RequestView = record { service = s; message = message } in r) (range_with_len 0 services)
+-- the services of rows
+abbrev pub services_of : List PlanRow → List ℕ
+services_of rows = map (λ (row : PlanRow). row.service.0) rows
+
+-- one request to each of these services, in their order
+abbrev pub to_all : List ℕ → Record → List RequestView
+to_all voters message = map (λ s. let r : RequestView = record { service = s; message = message } in r) voters
 
 -- one client becomes another, and requests are sent
 abbrev pub changed : WorldView → ℕ → ClientView → List RequestView → WorldView
@@ -74,8 +78,12 @@ next_of c = length c.chain + 1
 abbrev pub last_of : Setting → ClientView → List ℕ
 last_of setting c = last_name (name_of setting.genesis) c.chain
 
-abbrev pub plan_of_client : Setting → ClientView → Option PlanView
-plan_of_client setting c = plan_in setting.genesis.plan c.chain
+abbrev pub plan_of_client : Setting → ClientView → PlanView
+plan_of_client setting c = plan_in (genesis_plan setting) c.chain
+
+-- who votes at the position behind a client's chain
+abbrev pub voters_of_client : Setting → ClientView → List ℕ
+voters_of_client setting c = voters_behind (origin_of setting) c.chain
 
 -- a client that never ran
 abbrev pub new_client : ClientView

@@ -1,10 +1,10 @@
 //! What stands behind a client's chain.
 
-ghost use Rattle.std.specs.Prelude.{◌≡◌};
-ghost use Rattle.ms_world.specs.Steps.{pushed, turned, version_of};
+ghost use Rattle.std.specs.Prelude.{◌≡◌, ◌≤◌};
+ghost use Rattle.ms_world.specs.Steps.{in_format, planned, pushed, turn_plan, version_of};
 ghost use Rattle.ms_world.specs.Worlds.{last_of, plan_of_client};
-ghost use Rattle.ms_record.specs.Chains.{generation_after, generation_in};
-ghost use Rattle.ms_record.specs.Settings.{plan_after, plan_in};
+ghost use Rattle.ms_record.specs.Chains.{plan_after, plan_in};
+ghost use Rattle.ms_record.specs.Settings.{IsSetting, genesis_plan};
 
 use crate::client::Client;
 use crate::event::Push;
@@ -13,17 +13,21 @@ use ms_record::{Entry, Plan, Setting, entry_name};
 
 impl Client {
     /// The plan in force behind its chain.
-    pub(crate) fn plan(&self, setting: &Setting) -> Option<Plan>
+    pub(crate) fn plan(&self, setting: &Setting) -> Plan
+        requires { IsSetting setting.now }
         ensures { result ≡ plan_of_client setting.now self.now }
     {
-        plan_behind(&setting.genesis, &self.chain)
+        plan_behind(genesis_plan(setting), &self.chain)
     }
 
-    /// The generation in force behind its chain.
-    pub(crate) fn generation(&self) -> u32
-        ensures { result ≡ generation_in 1 self.now.chain }
+    /// The plan of a turn, in the format in force behind its chain.
+    pub(crate) fn turn_plan(&self, setting: &Setting, plan: &Plan) -> Plan
+        requires { IsSetting setting.now }
+        ensures { result ≡ turn_plan setting.now self.now plan.now }
     {
-        generation_behind(&self.chain)
+        let now = self.plan(setting);
+        let _ = now.rows();
+        in_format(plan, now.format())
     }
 
     /// The name of the last member of its chain, and of the genesis where there is none.
@@ -65,64 +69,74 @@ impl Client {
         })
     }
 
-    /// The entry that turns to a plan behind its chain.
-    pub(crate) fn turned(
+    /// The plan entry of a version behind its chain.
+    pub(crate) fn planned(
         &self,
         setting: &Setting,
         client: ClientId,
         number: u32,
+        version: Name,
         plan: &Plan,
     ) -> Entry
-        ensures { result ≡ turned setting.now self.now client.0 number plan.now }
+        ensures { result ≡ planned setting.now self.now client.0 number version plan.now }
     {
         Entry {
             before: self.last_name(setting),
             client,
             number,
-            version: self.version(setting),
+            version,
             plan: Some(*plan),
         }
     }
 }
 
-/// The plan in force behind the members: the last plan, and that of the genesis where there is none.
-fn plan_behind(genesis: &Entry, members: &[Entry]) -> Option<Plan>
-    ensures { result ≡ plan_in genesis.now.plan members.now }
+/// The plan of the genesis.
+pub(crate) fn genesis_plan(setting: &Setting) -> Plan
+    requires { IsSetting setting.now }
+    ensures { result ≡ genesis_plan setting.now }
 {
-    let mut plan = genesis.plan;
+    match setting.genesis.plan {
+        Some(plan) => plan,
+        None => unreachable!(),
+    }
+}
+
+/// The plan in force behind the members: the last plan, and the first one where there is none.
+pub(crate) fn plan_behind(first: Plan, members: &[Entry]) -> Plan
+    ensures { result ≡ plan_in first members.now }
+{
+    let mut plan = first;
     for entry in members {
         plan = plan_with(plan, entry);
     }
     plan
 }
 
-/// The generation in force behind the members: that of their last plan, and 1 where there is none.
-pub(crate) fn generation_behind(members: &[Entry]) -> u32
-    ensures { result ≡ generation_in 1 members.now }
-{
-    let mut generation = 1;
-    for entry in members {
-        generation = generation_with(generation, entry);
-    }
-    generation
-}
-
 /// The plan in force behind an entry, where this was it before.
-fn plan_with(before: Option<Plan>, entry: &Entry) -> Option<Plan>
+pub(crate) fn plan_with(before: Plan, entry: &Entry) -> Plan
     ensures { result ≡ plan_after before entry.now.plan }
 {
     match entry.plan {
-        Some(plan) => Some(plan),
+        Some(plan) => plan,
         None => before,
     }
 }
 
-/// The generation in force behind an entry, where this was it before.
-fn generation_with(before: u32, entry: &Entry) -> u32
-    ensures { result ≡ generation_after before entry.now.plan }
+/// The plan, with objects in this format.
+pub(crate) fn in_format(plan: &Plan, format: u32) -> Plan
+    requires some { 1 ≤ format }
+    requires last { format ≤ 2 }
+    ensures { result ≡ in_format format plan.now }
 {
-    match &entry.plan {
-        Some(plan) => plan.generation(),
-        None => before,
+    let rows = plan.rows();
+    match Plan::new(
+        plan.generation(),
+        format,
+        plan.replicas(),
+        plan.unit(),
+        rows,
+    ) {
+        Some(plan) => plan,
+        None => unreachable!(),
     }
 }

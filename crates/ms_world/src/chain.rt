@@ -1,20 +1,19 @@
 //! The chain of the logs, brought up to date.
 
-ghost use Rattle.std.specs.Prelude.{◌≡◌, ◌++◌, ◌∷◌, [], true, false, IfOk, OnOk, OnErr, length};
+ghost use Rattle.std.specs.Prelude.{◌≡◌, ◌++◌, ◌∷◌, [], None, IfOk, IfSome, OnOk, OnErr};
 ghost use Rattle.ms_world.specs.Held.{IsReached};
-ghost use Rattle.ms_world.specs.Rulings.{votes_at};
 ghost use Rattle.ms_world.specs.Worlds.{votes_of_world};
 ghost use Rattle.ms_record.specs.declared.entry.Entry.{Entry};
-ghost use Rattle.ms_record.specs.Chains.{IsChain, IsLinked, all_services};
+ghost use Rattle.ms_record.specs.Chains.{IsChain, IsLinked, plan_after, voters_of};
 ghost use Rattle.ms_record.specs.Settings.{IsSetting, origin_of};
-ghost use Rattle.ms_record.specs.Votes.{ChosenBy, services_below};
+ghost use Rattle.ms_record.specs.Votes.{ChosenBy};
 
-use crate::chosen::chosen_at;
-use crate::front::{Front, whole_fronts};
+use crate::behind::{genesis_plan, plan_behind, plan_with};
 use crate::reached::{chains_go_on, states_hold};
-use crate::state::{LAST_NUMBER, State};
+use crate::state::State;
 use ms_base::NoMemory;
-use ms_record::{Entries, Entry, Setting};
+use ms_base::limits::LAST_NUMBER;
+use ms_record::{Entries, Entry, Plan, Setting};
 use std::alloc::Global;
 
 /// Puts what is chosen behind a linked list at its end, as far as it goes: the list is then the chain. Where memory
@@ -27,42 +26,48 @@ pub(crate) fn follow(
 ) -> Result<(), NoMemory>
     requires set { IsSetting setting.now }
     requires reached { IsReached setting.now state.now }
-    requires linked { IsLinked (votes_of_world state.now) (all_services setting.now.services) (origin_of setting.now) chain.old }
-    ensures chain { OnOk result (IsChain (votes_of_world state.now) (all_services setting.now.services) (origin_of setting.now) chain.new) }
-    ensures linked { IsLinked (votes_of_world state.now) (all_services setting.now.services) (origin_of setting.now) chain.new }
+    requires linked { IsLinked (votes_of_world state.now) (origin_of setting.now) chain.old }
+    ensures chain { OnOk result (IsChain (votes_of_world state.now) (origin_of setting.now) chain.new) }
+    ensures linked { IsLinked (votes_of_world state.now) (origin_of setting.now) chain.new }
 {
     states_hold();
     chains_go_on();
-    let logs = whole_fronts(alloc, state.logs.as_slice())?;
+    let mut plan = plan_behind(genesis_plan(setting), chain.as_slice());
     let next = chain.len() as u32 + 1;
     for position in next..LAST_NUMBER + 1 {
-        if !follow_at(alloc, logs.as_slice(), position, chain)? {
-            return Ok(());
+        match follow_at(alloc, state, &plan, position, chain)? {
+            Some(behind) => {
+                plan = behind;
+            }
+            None => return Ok(()),
         }
     }
     Ok(())
 }
 
-/// Puts the entry that is chosen at the position at the end of a list, and tells whether there is one.
+/// Puts the entry that the services of the plan have chosen at the position at the end of a list; the plan in force
+/// behind it, or none where nothing is chosen.
 fn follow_at(
     alloc: Global,
-    logs: &[Front<'_>],
+    state: &State,
+    plan: &Plan,
     position: u32,
     list: &mut Entries,
-) -> Result<bool, NoMemory>
-    ensures more { IfOk result (λ goes_on. goes_on ≡ true
-        → (e : Entry) × ChosenBy (votes_at logs.now) (services_below (length logs.now)) position e × (list.new ≡ list.old ++ e ∷ [])) }
-    ensures end { IfOk result (λ goes_on. goes_on ≡ false
-        → (list.new ≡ list.old) × ((e : Entry) → ¬ ChosenBy (votes_at logs.now) (services_below (length logs.now)) position e)) }
+) -> Result<Option<Plan>, NoMemory>
+    ensures more { IfOk result (λ o. IfSome o (λ behind.
+        (e : Entry) × ChosenBy (votes_of_world state.now) (voters_of plan.now) position e × (list.new ≡ list.old ++ e ∷ []) × (behind ≡ plan_after plan.now e.plan))) }
+    ensures end { IfOk result (λ o. o ≡ None
+        → (list.new ≡ list.old) × ((e : Entry) → ¬ ChosenBy (votes_of_world state.now) (voters_of plan.now) position e)) }
     ensures err { OnErr result (list.new ≡ list.old) }
 {
-    let chosen = chosen_at(alloc, logs, position)?;
+    let chosen = state.chosen_under(alloc, plan, position)?;
     match &chosen {
-        None => Ok(false),
+        None => Ok(None),
         Some(entry) => {
+            let behind = plan_with(*plan, entry);
             let plan = entry.plan;
             list.push(Entry { plan, ..*entry })?;
-            Ok(true)
+            Ok(Some(behind))
         }
     }
 }

@@ -34,6 +34,13 @@ pub enum Event {
         number: u32,
         plan: Plan,
     },
+    /// The client bids for the position behind its chain with the plan in force in format 2, and a version in that format.
+    Migrate {
+        client: ClientId,
+        round: u32,
+        number: u32,
+        version: Name,
+    },
     /// A request reaches its service: once, again, or late.
     Deliver {
         request: u64,

@@ -1,11 +1,8 @@
 //! What somebody has read of the logs.
 
-ghost use Rattle.std.specs.Prelude.{◌≡◌, IfOk};
+ghost use Rattle.std.specs.Prelude.{◌≡◌};
 
-use crate::service::Log;
-use ms_base::NoMemory;
 use ms_record::LogEvent;
-use std::alloc::Global;
 use std::marker::Model;
 
 /// The front of a service's log: its first events, in order.
@@ -35,15 +32,4 @@ impl<'a> Front<'a> {
     {
         self.events
     }
-}
-
-/// The whole of each log.
-pub(crate) fn whole_fronts<'a>(alloc: Global, logs: &'a [Log]) -> Result<Vec<Front<'a>>, NoMemory>
-    ensures { IfOk result (λ v. v.items ≡ logs.now) }
-{
-    let mut fronts = Vec::new(alloc);
-    for log in logs {
-        fronts.push(Front::new(log.as_slice()))?;
-    }
-    Ok(fronts)
 }

@@ -11,7 +11,8 @@ ghost use Rattle.ms_record.specs.declared.setting.Setting.{Setting};
 ghost use Rattle.ms_record.specs.Records.{record_text};
 
 use crate::service::Log;
-use crate::state::{LAST_NUMBER, State};
+use crate::state::State;
+use ms_base::limits::LAST_NUMBER;
 use ms_base::{Bytes, Name, NoMemory, ServiceId};
 use ms_record::{ListId, LogEvent, Record, Setting, Why, write_record};
 use sha2::{Digest, Sha256};

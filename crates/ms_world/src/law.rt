@@ -1,38 +1,44 @@
 //! What holds in every run.
 
-ghost use Rattle.std.specs.Prelude.{◌≡◌, ◌+◌, ◌<◌, ◌⊎◌, ◌++◌, ◌∷◌, ℕ, All, Contains, List, Some, slice_get};
+ghost use Rattle.std.specs.Prelude.{◌≡◌, ◌+◌, ◌<◌, ◌≤◌, ◌⊎◌, ◌++◌, ◌∷◌, ℕ, All, Contains, List, Some, slice_get};
 ghost use Rattle.ms_world.specs.declared.event.Event.{Event};
 ghost use Rattle.ms_core.specs.Placing.{StaysPlaced};
 ghost use Rattle.ms_world.specs.Steps.{IsEvent, IsRun};
-ghost use Rattle.ms_core.specs.Valid.{IsValid, IsLive, Names};
+ghost use Rattle.ms_core.specs.Valid.{IsValid, IsLive, Names, plan_at};
 ghost use Rattle.ms_core.specs.Views.{MayDeclare, SupportsEvent};
 ghost use Rattle.ms_world.specs.Worlds.{ClientView, WorldView, log_of, offers_in, votes_of_world};
 ghost use Rattle.ms_record.specs.declared.entry.Entry.{Entry};
 ghost use Rattle.ms_record.specs.declared.log.LogEvent.{LogEvent};
 ghost use Rattle.ms_record.specs.declared.record.Record.{Record};
 ghost use Rattle.ms_record.specs.declared.setting.Setting.{Setting};
-ghost use Rattle.ms_record.specs.Chains.{Agrees, Begins, IsChain, IsChosen, all_services};
-ghost use Rattle.ms_record.specs.Plans.{PlanView};
+ghost use Rattle.ms_record.specs.Chains.{Agrees, Begins, IsChain, IsChosen};
 ghost use Rattle.ms_record.specs.Settings.{IsSetting, origin_of};
 
-use ms_record::law::{ballots_agree, one_chain, places_stay};
+use ms_record::law::{masters_agree, one_chain};
 use ms_record::record::one_spelling;
 
 /// For every setting and every list of events that can happen, with any number of failures.
 pub fn every_run()
     // Two entries chosen at one position are one.
     ensures agrees { (setting : Setting) (events : List Event) (w : WorldView) → IsSetting setting → All IsEvent events → IsRun setting events w
-        → Agrees (votes_of_world w) setting.services }
+        → Agrees (votes_of_world w) (origin_of setting) }
     // A chosen entry links on to the members before it, and its version is placed.
     ensures valid { (setting : Setting) (events : List Event) (w : WorldView) → IsSetting setting → All IsEvent events → IsRun setting events w
-        → (k : ℕ) (e : Entry) → IsChosen (votes_of_world w) setting.services k e → IsValid setting (log_of w) k e }
+        → (k : ℕ) (e : Entry) → IsChosen (votes_of_world w) (origin_of setting) k e → IsValid setting (log_of w) k e }
     // A chosen entry stands in the chain at its position.
     ensures stands { (setting : Setting) (events : List Event) (w : WorldView) (chain : List Entry) → IsSetting setting → All IsEvent events → IsRun setting events w
-        → IsChain (votes_of_world w) (all_services setting.services) (origin_of setting) chain
-        → (i : ℕ) (e : Entry) → IsChosen (votes_of_world w) setting.services (i + 1) e → slice_get chain i ≡ Some e }
+        → IsChain (votes_of_world w) (origin_of setting) chain
+        → (i : ℕ) (e : Entry) → IsChosen (votes_of_world w) (origin_of setting) (i + 1) e → slice_get chain i ≡ Some e }
+    // A run has a chain.
+    ensures chain { (setting : Setting) (events : List Event) (w : WorldView) → IsSetting setting → All IsEvent events → IsRun setting events w
+        → (chain : List Entry) × IsChain (votes_of_world w) (origin_of setting) chain }
+    // Behind a plan of format 2 none of format 1 comes into force.
+    ensures formats { (setting : Setting) (events : List Event) (w : WorldView) (chain : List Entry) → IsSetting setting → All IsEvent events → IsRun setting events w
+        → IsChain (votes_of_world w) (origin_of setting) chain
+        → (i j : ℕ) → i ≤ j → (plan_at setting chain i).format ≤ (plan_at setting chain j).format }
     // A client's chain begins the chain.
     ensures begins { (setting : Setting) (events : List Event) (w : WorldView) (chain : List Entry) → IsSetting setting → All IsEvent events → IsRun setting events w
-        → IsChain (votes_of_world w) (all_services setting.services) (origin_of setting) chain
+        → IsChain (votes_of_world w) (origin_of setting) chain
         → (client : ℕ) (c : ClientView) → slice_get w.clients client ≡ Some c → Begins c.chain chain }
     // Of two clients' chains one begins the other.
     ensures one_list { (setting : Setting) (events : List Event) (w : WorldView) → IsSetting setting → All IsEvent events → IsRun setting events w
@@ -49,11 +55,10 @@ pub fn every_run()
         → (client < setting.clients) × MayDeclare setting (log_of w) client before offer }
     // A live master stays placed, whatever was dropped.
     ensures live { (setting : Setting) (events : List Event) (w : WorldView) (chain : List Entry) → IsSetting setting → All IsEvent events → IsRun setting events w
-        → IsChain (votes_of_world w) (all_services setting.services) (origin_of setting) chain
-        → (i : ℕ) (e : Entry) (plan : PlanView) → IsLive setting chain i e plan → StaysPlaced (log_of w) plan e.version }
+        → IsChain (votes_of_world w) (origin_of setting) chain
+        → (i : ℕ) (e : Entry) → IsLive setting chain i e → StaysPlaced (log_of w) (plan_at setting chain i) e.version }
 {
-    ballots_agree();
-    places_stay();
+    masters_agree();
     one_chain();
     one_spelling();
 }

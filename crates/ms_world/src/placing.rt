@@ -25,7 +25,7 @@ const MOST_BLOB: usize = 65_536;
 
 /// Whether the text is a blob.
 fn is_blob(text: &[u8]) -> bool
-    ensures { IsTrue result ↔ IsText wanted.Blob text.now }
+    ensures { IsTrue result ↔ IsText 1 wanted.Blob text.now }
 {
     match text {
         [tag, blob @ ..] => *tag == b'B' && blob.len() <= MOST_BLOB,
@@ -108,7 +108,7 @@ fn meet_object(wanted: Wanted, object: &Object, met: &mut Met) -> Result<bool, N
 
 /// Meets what the text names, if it is an object of this kind; whether it is.
 fn meet_read(alloc: Global, wanted: Wanted, text: &[u8], met: &mut Met) -> Result<bool, NoMemory>
-    ensures { IfOk result (MeetsText wanted text.now met.old met.new) }
+    ensures { IfOk result (MeetsText 1 wanted text.now met.old met.new) }
 {
     one_spelling();
     match object_of(alloc, text)? {
@@ -118,13 +118,29 @@ fn meet_read(alloc: Global, wanted: Wanted, text: &[u8], met: &mut Met) -> Resul
 }
 
 /// The same, where a blob is not copied.
-fn meet_text(alloc: Global, wanted: Wanted, text: &[u8], met: &mut Met) -> Result<bool, NoMemory>
-    ensures { IfOk result (MeetsText wanted text.now met.old met.new) }
+fn meet_first(alloc: Global, wanted: Wanted, text: &[u8], met: &mut Met) -> Result<bool, NoMemory>
+    ensures { IfOk result (MeetsText 1 wanted text.now met.old met.new) }
 {
     match wanted {
         Wanted::Blob => Ok(is_blob(text)),
         _ => meet_read(alloc, wanted, text, met),
     }
+}
+
+/// Meets what the text names, if it is an object of this format and kind; whether it is.
+fn meet_text(
+    alloc: Global,
+    format: u32,
+    wanted: Wanted,
+    text: &[u8],
+    met: &mut Met,
+) -> Result<bool, NoMemory>
+    ensures { IfOk result (MeetsText format wanted text.now met.old met.new) }
+{
+    if format != 1 {
+        return Ok(false);
+    }
+    meet_first(alloc, wanted, text, met)
 }
 
 /// Reaches what is wanted, if it is there, and meets what it names; whether it is.
@@ -145,7 +161,7 @@ fn reach(
     if found.copies(rows) < plan.replicas() as usize {
         return Ok(false);
     }
-    meet_text(alloc, want.wanted, found.text, met)
+    meet_text(alloc, plan.format(), want.wanted, found.text, met)
 }
 
 /// Whether the version is placed under the plan by the first text that was put under each name of the plan's generation.

@@ -8,11 +8,11 @@ ghost use Rattle.ms_world.specs.Steps.{IsEvent, Step, last_number};
 ghost use Rattle.ms_world.specs.Worlds.{WorldView, votes_of_world};
 ghost use Rattle.ms_record.specs.declared.entry.Entry.{Entry};
 ghost use Rattle.ms_record.specs.declared.setting.Setting.{Setting};
-ghost use Rattle.ms_record.specs.Chains.{IsChain, IsLinked, all_services};
+ghost use Rattle.ms_record.specs.Chains.{IsChain, IsLinked, voters_behind};
 ghost use Rattle.ms_record.specs.Settings.{IsSetting, origin_of};
-ghost use Rattle.ms_record.specs.Votes.{ChosenBy, services_below};
+ghost use Rattle.ms_record.specs.Votes.{ChosenBy};
 
-use ms_record::law::{ballots_agree, one_chain, places_stay};
+use ms_record::law::{masters_agree, one_chain};
 use ms_record::record::one_spelling;
 
 /// A run goes on by an event that can happen, and a linked list then stays one.
@@ -20,23 +20,21 @@ pub(crate) fn runs_go_on()
     ensures reached { (setting : Setting) (w new : WorldView) (event : Event)
         → IsReached setting w → IsEvent event → Step setting w event new → IsReached setting new }
     ensures linked { (setting : Setting) (w new : WorldView) (event : Event) (chain : List Entry) → Step setting w event new
-        → IsLinked (votes_of_world w) (all_services setting.services) (origin_of setting) chain
-        → IsLinked (votes_of_world new) (all_services setting.services) (origin_of setting) chain }
+        → IsLinked (votes_of_world w) (origin_of setting) chain
+        → IsLinked (votes_of_world new) (origin_of setting) chain }
 {
-    ballots_agree();
-    places_stay();
+    masters_agree();
     one_chain();
     one_spelling();
 }
 
-/// What a state keeps, and that by what a client knows two entries chosen behind its chain are one.
+/// What a state keeps, and that by what a client knows of its voters two entries chosen behind its chain are one.
 pub(crate) fn states_hold()
     ensures state { (setting : Setting) (w : WorldView) → IsSetting setting → IsReached setting w → IsState setting w }
     ensures present { (setting : Setting) (w : WorldView) → IsSetting setting → IsReached setting w → length w.clients ≡ setting.clients }
     ensures known_one { (setting : Setting) (w : WorldView) → IsSetting setting → IsReached setting w → KnowsOne setting w }
 {
-    ballots_agree();
-    places_stay();
+    masters_agree();
     one_chain();
     one_spelling();
 }
@@ -44,24 +42,23 @@ pub(crate) fn states_hold()
 /// A linked list goes on with the entry that is chosen behind it; where none is, it is the chain, of which there is one.
 pub(crate) fn chains_go_on()
     ensures short { (setting : Setting) (w : WorldView) (chain : List Entry) → IsSetting setting → IsReached setting w
-        → IsLinked (votes_of_world w) (all_services setting.services) (origin_of setting) chain → length chain ≤ last_number }
+        → IsLinked (votes_of_world w) (origin_of setting) chain → length chain ≤ last_number }
     ensures goes_on { (setting : Setting) (w : WorldView) (chain : List Entry) (e : Entry) → IsSetting setting → IsReached setting w
-        → IsLinked (votes_of_world w) (all_services setting.services) (origin_of setting) chain
-        → ChosenBy (votes_of_world w) (services_below setting.services) (length chain + 1) e
-        → IsLinked (votes_of_world w) (all_services setting.services) (origin_of setting) (chain ++ e ∷ []) }
+        → IsLinked (votes_of_world w) (origin_of setting) chain
+        → ChosenBy (votes_of_world w) (voters_behind (origin_of setting) chain) (length chain + 1) e
+        → IsLinked (votes_of_world w) (origin_of setting) (chain ++ e ∷ []) }
     ensures ends { (setting : Setting) (w : WorldView) (chain : List Entry) → IsSetting setting → IsReached setting w
-        → IsLinked (votes_of_world w) (all_services setting.services) (origin_of setting) chain
-        → ((e : Entry) → ¬ ChosenBy (votes_of_world w) (services_below setting.services) (length chain + 1) e)
-        → IsChain (votes_of_world w) (all_services setting.services) (origin_of setting) chain }
+        → IsLinked (votes_of_world w) (origin_of setting) chain
+        → ((e : Entry) → ¬ ChosenBy (votes_of_world w) (voters_behind (origin_of setting) chain) (length chain + 1) e)
+        → IsChain (votes_of_world w) (origin_of setting) chain }
     ensures full { (setting : Setting) (w : WorldView) (chain : List Entry) → IsSetting setting → IsReached setting w
-        → IsLinked (votes_of_world w) (all_services setting.services) (origin_of setting) chain → last_number ≤ length chain
-        → IsChain (votes_of_world w) (all_services setting.services) (origin_of setting) chain }
+        → IsLinked (votes_of_world w) (origin_of setting) chain → last_number ≤ length chain
+        → IsChain (votes_of_world w) (origin_of setting) chain }
     ensures one { (setting : Setting) (w : WorldView) (a b : List Entry) → IsSetting setting → IsReached setting w
-        → IsChain (votes_of_world w) (all_services setting.services) (origin_of setting) a
-        → IsChain (votes_of_world w) (all_services setting.services) (origin_of setting) b → a ≡ b }
+        → IsChain (votes_of_world w) (origin_of setting) a
+        → IsChain (votes_of_world w) (origin_of setting) b → a ≡ b }
 {
-    ballots_agree();
-    places_stay();
+    masters_agree();
     one_chain();
     one_spelling();
 }

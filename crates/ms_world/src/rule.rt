@@ -8,6 +8,7 @@ ghost use Rattle.ms_record.specs.declared.ballot.Ballot.{Ballot};
 ghost use Rattle.ms_record.specs.declared.ballot.Vote.{Vote};
 ghost use Rattle.ms_record.specs.declared.record.Record.{Record};
 ghost use Rattle.ms_record.specs.Ballots.{IsAtMost, IsBelow};
+ghost use Rattle.ms_record.specs.Votes.{services_below};
 
 use crate::front::Front;
 use crate::shown::shown;
@@ -81,7 +82,7 @@ pub(crate) fn rule(
     ballot: Ballot,
     want: &Option<Entry>,
 ) -> Ruling
-    ensures { IsRuling (votes_at logs.now) (length logs.now) position ballot want.now result }
+    ensures { IsRuling (votes_at logs.now) (services_below (length logs.now)) position ballot want.now result }
 {
     let mut promises = Promises {
         count: 0,

@@ -1,22 +1,19 @@
 //! The state of a world, and what each event does to it. What holds in every run is added by `World`.
 
-ghost use Rattle.std.specs.Prelude.{◌≡◌, ◌≤◌, ◌<◌, ◌++◌, length, replicate, slice_set, slice_get, [], Some, IfOk, IfErr, OnOk, OnErr};
+ghost use Rattle.std.specs.Prelude.{◌≡◌, ◌≤◌, ◌<◌, ◌++◌, length, map, replicate, slice_set, slice_get, [], Some, IfOk, IfErr, OnOk, OnErr};
 ghost use Rattle.ms_world.specs.declared.event.Event.TheVariants as events;
 ghost use Rattle.ms_world.specs.Refusals.{Tries};
 ghost use Rattle.ms_world.specs.States.{IsDown, IsState};
 ghost use Rattle.ms_world.specs.Steps.{IsUp};
-ghost use Rattle.ms_world.specs.Worlds.{new_client, start_world, to_all};
+ghost use Rattle.ms_world.specs.Worlds.{RequestView, new_client, services_of, start_world, to_all};
 ghost use Rattle.ms_record.specs.declared.setting.Setting.{Setting};
 
 use crate::client::{Client, Request};
 use crate::service::Log;
 use ms_base::{ClientId, NoMemory, ServiceId};
-use ms_record::{Record, Setting, Why};
+use ms_record::{PlanRow, Record, Setting, Why};
 use std::alloc::Global;
 use std::marker::Model;
-
-/// The last position, round and generation.
-pub(crate) const LAST_NUMBER: u32 = 4_294_967_294;
 
 /// A log per service, all requests ever sent, and the clients.
 #[derive(Drop)]
@@ -120,17 +117,17 @@ impl State {
         None
     }
 
-    /// Sends a request to each service; where memory runs out, to none.
+    /// Sends a request to each voter; where memory runs out, to none.
     pub(crate) fn send(
         &mut self,
         alloc: Global,
-        services: u32,
+        voters: &[PlanRow],
         message: &Record,
     ) -> Result<(), NoMemory>
-        ensures ok { OnOk result (self.new ≡ record self.old { requests = self.old.requests ++ to_all services message.now }) }
+        ensures ok { OnOk result (self.new ≡ record self.old { requests = self.old.requests ++ to_all (services_of voters.now) message.now }) }
         ensures err { OnErr result (self.new ≡ self.old) }
     {
-        let mut sent = requests_to(alloc, services, message)?;
+        let mut sent = requests_to(alloc, voters, message)?;
         self.requests.append(&mut sent)?;
         Ok(())
     }
@@ -166,21 +163,34 @@ fn zeros(alloc: Global, count: u32) -> Result<Vec<u64>, NoMemory>
     Ok(zeros)
 }
 
-/// One request to each service, by number.
-fn requests_to(alloc: Global, services: u32, message: &Record) -> Result<Vec<Request>, NoMemory>
-    ensures { IfOk result (λ v. v.items ≡ to_all services message.now) }
+/// One request to each voter.
+fn requests_to(
+    alloc: Global,
+    voters: &[PlanRow],
+    message: &Record,
+) -> Result<Vec<Request>, NoMemory>
+    ensures { IfOk result (λ v. v.items ≡ map (λ row. let r : RequestView = record { service = row.service.0; message = message.now } in r) voters.now) }
 {
-    let sent = (0..services)
-        .map(|service| request_to(service, message))
+    let sent = voters
+        .iter()
+        .map(|row| request_to(row, message))
         .collect(alloc)?;
     Ok(sent)
 }
 
-fn request_to(service: u32, message: &Record) -> Request
-    ensures { result ≡ record { service = service; message = message.now } }
+fn request_to(row: &PlanRow, message: &Record) -> Request
+    ensures { result ≡ record { service = row.now.service.0; message = message.now } }
 {
     Request {
-        service,
+        service: row.service.0,
         message: *message,
     }
+}
+
+/// The voter at a place.
+pub(crate) fn voter(voters: &[PlanRow], i: usize) -> &PlanRow
+    requires { i < length voters.now }
+    ensures { slice_get voters.now i ≡ Some result.now }
+{
+    &voters[i]
 }

@@ -6,16 +6,16 @@ ghost use Rattle.ms_world.specs.Held.{IsReached, StepsTo};
 ghost use Rattle.ms_world.specs.Refusals.{Tries};
 ghost use Rattle.ms_world.specs.Steps.{IsEvent};
 ghost use Rattle.ms_world.specs.Worlds.{ClientView, start_world, votes_of_world};
-ghost use Rattle.ms_record.specs.Chains.{IsChain, IsLinked, all_services};
+ghost use Rattle.ms_record.specs.Chains.{IsChain, IsLinked};
 ghost use Rattle.ms_record.specs.Plans.{IsPlan};
 ghost use Rattle.ms_record.specs.Settings.{IsSetting, origin_of};
 
-use crate::behind::generation_behind;
+use crate::behind::{genesis_plan, plan_behind};
 use crate::chain::follow;
 use crate::event::{Event, Push};
 use crate::reached::{chains_go_on, runs_go_on, states_hold};
 use crate::state::State;
-use ms_base::{Bytes, ClientId, NoMemory, ServiceId};
+use ms_base::{Bytes, ClientId, Name, NoMemory, ServiceId};
 use ms_record::{Entries, Plan, Refusal, Setting, Why};
 use std::alloc::Global;
 use std::marker::Model;
@@ -79,7 +79,7 @@ impl World {
 
     /// The chain of the logs: the longest list of entries that are chosen at their positions and link on.
     pub fn chain(&self) -> Result<Entries, NoMemory>
-        ensures { IfOk result (λ c. IsChain (votes_of_world self.now.world) (all_services self.now.setting.services) (origin_of self.now.setting) c) }
+        ensures { IfOk result (λ c. IsChain (votes_of_world self.now.world) (origin_of self.now.setting) c) }
     {
         let so_far = Vec::from_slice(self.alloc, self.chain.as_slice())?;
         let mut chain = Entries::from_vec(so_far);
@@ -127,10 +127,10 @@ fn carry_out(
 ) -> Result<Option<Why>, NoMemory>
     requires set { IsSetting setting.now }
     requires reached { IsReached setting.now state.old }
-    requires linked { IsLinked (votes_of_world state.old) (all_services setting.now.services) (origin_of setting.now) chain.old }
+    requires linked { IsLinked (votes_of_world state.old) (origin_of setting.now) chain.old }
     ensures ok { IfOk result (λ why. Tries setting.now state.old event.now state.new why) }
     ensures err { OnErr result (state.new ≡ state.old) }
-    ensures linked { IsLinked (votes_of_world state.old) (all_services setting.now.services) (origin_of setting.now) chain.new }
+    ensures linked { IsLinked (votes_of_world state.old) (origin_of setting.now) chain.new }
 {
     states_hold();
     match event {
@@ -147,6 +147,12 @@ fn carry_out(
             number,
             plan,
         } => state.turn(alloc, setting, *client, *round, *number, plan),
+        Event::Migrate {
+            client,
+            round,
+            number,
+            version,
+        } => state.migrate(alloc, setting, *client, *round, *number, *version),
         Event::Deliver { request } => state.deliver(alloc, *request),
         Event::Read {
             client,
@@ -180,16 +186,16 @@ fn drop_below(
 ) -> Result<Option<Why>, NoMemory>
     requires set { IsSetting setting.now }
     requires reached { IsReached setting.now state.old }
-    requires linked { IsLinked (votes_of_world state.old) (all_services setting.now.services) (origin_of setting.now) chain.old }
+    requires linked { IsLinked (votes_of_world state.old) (origin_of setting.now) chain.old }
     ensures ok { IfOk result (λ why. Tries setting.now state.old (events.DropBelow service floor) state.new why) }
     ensures err { OnErr result (state.new ≡ state.old) }
-    ensures linked { IsLinked (votes_of_world state.old) (all_services setting.now.services) (origin_of setting.now) chain.new }
+    ensures linked { IsLinked (votes_of_world state.old) (origin_of setting.now) chain.new }
 {
     states_hold();
     chains_go_on();
     follow(alloc, setting, state, chain)?;
-    let generation = generation_behind(chain.as_slice());
-    state.drop_below(setting, service, floor, generation)
+    let plan = plan_behind(genesis_plan(setting), chain.as_slice());
+    state.drop_below(setting, service, floor, plan.generation())
 }
 
 /// The numbers and names of an event are in the ranges of their types.
@@ -202,6 +208,11 @@ fn event_ranges(event: &Event)
             ..
         } => push_ranges(*push),
         Event::Turn { number, plan, .. } => turn_ranges(*number, plan),
+        Event::Migrate {
+            number,
+            version,
+            ..
+        } => migrate_ranges(*number, *version),
         _ => {}
     }
 }
@@ -219,3 +230,9 @@ fn turn_ranges(number: u32, plan: &Plan)
 {
     let _ = plan.rows();
 }
+
+/// A number and a name are in the ranges of their types.
+fn migrate_ranges(number: u32, version: Name)
+    ensures number { number < 2 ^ 32 }
+    ensures version { length version.0 ≡ 32 }
+{}

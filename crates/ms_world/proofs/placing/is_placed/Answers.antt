@@ -21,7 +21,7 @@ returns-then-not-branch c =
     let missing : Reaches puts plan c.at.result c.loop-place.met c.reach.new.met false =
     subst (Reaches puts plan c.at.result c.loop-place.met c.reach.new.met) c.if-not-branch.true c.in_ok-reach.ensures.reaches in (
       λ is. absurd (true≢false (sym is)),
-      λ placed. absurd (walked_fails c.args.logs.now plan c.args.version.now puts knows c.loop-place.met c.loop-place.place c.at.result c.in_ok-reach.ensures.rules c.loop-place.invariant c.at.ensures missing placed),
+      λ placed. absurd (walked_fails c.args.logs.now plan c.args.version.now puts knows c.one_spelling.ensures.one_value c.loop-place.met c.loop-place.place c.at.result c.in_ok-reach.ensures.rules c.loop-place.invariant c.at.ensures missing placed),
     )
 
 pub loop-place-preserved : goal.loop-place-preserved
@@ -31,7 +31,7 @@ loop-place-preserved c =
     let knows : Knows c.args.logs.now plan.generation puts = subst (λ (g : ℕ). Knows c.args.logs.now g puts) c.generation.ensures c.in_ok-puts.ensures in
     let reached : Reaches puts plan c.at.result c.loop-place.met c.reach.new.met true =
     subst (Reaches puts plan c.at.result c.loop-place.met c.reach.new.met) c.if-not-branch.false c.in_ok-reach.ensures.reaches in
-    walked_next c.args.logs.now plan c.args.version.now puts knows c.loop-place.met c.reach.new.met c.loop-place.place c.at.result c.in_ok-reach.ensures.rules c.loop-place.invariant c.at.ensures reached
+    walked_next c.args.logs.now plan c.args.version.now puts knows c.one_spelling.ensures.one_value c.loop-place.met c.reach.new.met c.loop-place.place c.at.result c.in_ok-reach.ensures.rules c.loop-place.invariant c.at.ensures reached
 
 pub returns : goal.returns
 returns c =

@@ -1,5 +1,11 @@
-use Rattle.ms_world.proofs.ReachLaws.{met_blob}
+use Rattle.std.proofs.Common.{◌≡◌, ℕ, sym, subst, IfOk}
+use Rattle.ms_world.specs.Reaching.{IsText, MeetsText}
 use Rattle.ms_world.proofs.placing.meet_text.Goals as goal
 
-pub returns-in-Blob : goal.returns-in-Blob
-returns-in-Blob c = met_blob c.args.wanted c.args.text.now c.args.met.now c.is_blob.result c.in-Blob.is c.is_blob.ensures
+pub returns-then-format-ne1 : goal.returns-then-format-ne1
+returns-then-format-ne1 c = λ read. absurd (c.if-format-ne1.true (sym read.format_is))
+
+pub returns : goal.returns
+returns c =
+    let one : 1 ≡ c.args.format = sym c.if-format-ne1.false in
+    subst (λ (format : ℕ). IfOk c.meet_first.result (MeetsText format c.args.wanted c.args.text.now c.args.met.now c.meet_first.new.met)) one c.meet_first.ensures

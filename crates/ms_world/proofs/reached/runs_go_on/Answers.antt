@@ -4,11 +4,12 @@ use Rattle.ms_world.proofs.reached.runs_go_on.Goals as goal
 
 laws : (c : goal.After-one_spelling) → Laws
 laws c = record {
-  one = c.ballots_agree.ensures.one;
-  chosen = c.places_stay.ensures.chosen;
-  justified = c.places_stay.ensures.justified;
+  agrees = c.masters_agree.ensures.one;
   begins = c.one_chain.ensures.begins;
+  one_list = c.one_chain.ensures.one_list;
   stands = c.one_chain.ensures.stands;
+  none = c.one_chain.ensures.none;
+  chosen = c.one_chain.ensures.chosen;
   goes_on = c.one_chain.ensures.goes_on;
   read = c.one_spelling.ensures.again;
 }

@@ -9,6 +9,9 @@ bid-requires c = c.states_hold.ensures.state _ _ c.requires.set c.requires.reach
 pub turn-requires : goal.turn-requires
 turn-requires c = c.states_hold.ensures.state _ _ c.requires.set c.requires.reached
 
+pub migrate-requires : goal.migrate-requires
+migrate-requires c = c.states_hold.ensures.state _ _ c.requires.set c.requires.reached
+
 pub read-requires : goal.read-requires
 read-requires c = c.states_hold.ensures.state _ _ c.requires.set c.requires.reached
 

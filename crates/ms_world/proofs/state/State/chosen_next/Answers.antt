@@ -1,19 +1,24 @@
-use Rattle.std.proofs.Common.{◌≡◌, ℕ, List, None, IfOk, IfSome, length, sym, subst}
-use Rattle.ms_world.proofs.Fronts.{by_fronts}
-use Rattle.ms_world.specs.States.{AreFronts}
-use Rattle.ms_world.specs.Worlds.{known_votes}
+use Rattle.std.proofs.Common.{◌≡◌, ℕ, List, None, IfOk, IfSome, sym, subst}
+use Rattle.ms_world.proofs.Voting.{found_by_place, none_by_place}
+use Rattle.ms_world.specs.Rulings.{AreFronts}
+use Rattle.ms_world.specs.Worlds.{known_votes, next_of, services_of}
 use Rattle.ms_record.specs.declared.entry.Entry.{Entry}
 use Rattle.ms_record.specs.declared.log.LogEvent.{LogEvent}
-use Rattle.ms_record.specs.declared.record.Record.{Record}
-use Rattle.ms_record.specs.Votes.{ChosenBy, services_below}
+use Rattle.ms_record.specs.Chains.{voters_of}
+use Rattle.ms_record.specs.Plans.{PlanView}
+use Rattle.ms_record.specs.Votes.{ChosenBy}
 use Rattle.ms_world.proofs.state.State.chosen_next.Goals as goal
 
 pub returns : goal.returns
 returns c =
-    let are = subst (λ (fronts : List (List LogEvent)). AreFronts c.args.self.now c.args.c.now fronts) (sym c.deref.ensures.value) c.in_ok-fronts.ensures in
-    let Some_is : (ℕ → List Record) → ℕ → ℕ → Type 0 = λ votes services k. IfOk c.chosen_at.result (λ o. IfSome o (ChosenBy votes (services_below services) k)) in
-    let None_is : (ℕ → List Record) → ℕ → ℕ → Type 0 = λ votes services k. IfOk c.chosen_at.result (λ o. o ≡ None → (e : Entry) → ChosenBy votes (services_below services) k e → ⊥) in
+    let votes = known_votes c.args.self.now c.args.c.now in
+    let are = subst (λ (fronts : List (List LogEvent)). AreFronts votes (services_of c.rows.result.now) fronts) (sym c.deref.ensures.value) c.in_ok-fronts.ensures in
+    let k = c.next_position.result in
+    let some = found_by_place votes c.plan-plan.result c.rows.result.now c.deref.result.now k c.chosen_at.result c.rows.ensures.rules c.rows.ensures.rows are c.chosen_at.ensures.some in
+    let none = none_by_place votes c.plan-plan.result c.rows.result.now c.deref.result.now k c.chosen_at.result c.rows.ensures.rules c.rows.ensures.rows are c.chosen_at.ensures.none in
     record {
-      some = subst (λ (k : ℕ). Some_is (known_votes c.args.self.now c.args.c.now) (length c.args.self.now.logs) k) c.next_position.ensures (by_fronts (λ votes services. Some_is votes services c.next_position.result) c.args.self.now c.args.c.now c.deref.result.now are c.chosen_at.ensures.some);
-      none = subst (λ (k : ℕ). None_is (known_votes c.args.self.now c.args.c.now) (length c.args.self.now.logs) k) c.next_position.ensures (by_fronts (λ votes services. None_is votes services c.next_position.result) c.args.self.now c.args.c.now c.deref.result.now are c.chosen_at.ensures.none);
+      some = subst (λ (p : PlanView). IfOk c.chosen_at.result (λ o. IfSome o (ChosenBy votes (voters_of p) (next_of c.args.c.now)))) c.plan-plan.ensures
+          (subst (λ (n : ℕ). IfOk c.chosen_at.result (λ o. IfSome o (ChosenBy votes (voters_of c.plan-plan.result) n))) c.next_position.ensures some);
+      none = subst (λ (p : PlanView). IfOk c.chosen_at.result (λ o. o ≡ None → (e : Entry) → ChosenBy votes (voters_of p) (next_of c.args.c.now) e → ⊥)) c.plan-plan.ensures
+          (subst (λ (n : ℕ). IfOk c.chosen_at.result (λ o. o ≡ None → (e : Entry) → ChosenBy votes (voters_of c.plan-plan.result) n e → ⊥)) c.next_position.ensures none);
     }

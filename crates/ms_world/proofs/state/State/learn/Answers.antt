@@ -1,24 +1,23 @@
 use Rattle.std.proofs.Common.{Option, IfSome, refl, length, ap, subst, arith, rules}
 use Rattle.std.proofs.lemmas.Option.{slice_get_within}
 use Rattle.ms_world.proofs.Offering.{none_chosen, none_links, learnt}
-use Rattle.ms_world.specs.Worlds.{WorldView, known_votes, next_of}
+use Rattle.ms_world.specs.Worlds.{WorldView, known_votes, next_of, voters_of_client}
 use Rattle.ms_record.specs.declared.entry.Entry.{Entry}
-use Rattle.ms_record.specs.Votes.{ChosenBy, services_below}
+use Rattle.ms_record.specs.Votes.{ChosenBy}
 use Rattle.ms_world.proofs.state.State.learn.Goals as goal
 
 pub returns-in_default-clause-ok : goal.returns-in_default-clause-ok
 returns-in_default-clause-ok c = (
-  none_chosen c.args.setting.now c.args.self.now c.args.client.0 c.in-Ok.c.now c.requires.state.services c.in-Ok.ensures.up (c.in_ok-entry.ensures.none c.in_default.is),
+  none_chosen c.args.setting.now c.args.self.now c.args.client.0 c.in-Ok.c.now c.in-Ok.ensures.up (c.in_ok-entry.ensures.none c.in_default.is),
   refl,
 )
 
-pub returns-then-not-links_on-clause-ok : goal.returns-then-not-links_on-clause-ok
-returns-then-not-links_on-clause-ok c =
+pub returns-then-not-links-clause-ok : goal.returns-then-not-links-clause-ok
+returns-then-not-links-clause-ok c =
     let w = c.args.self.now in
     let it = c.in-Ok.c.now in
-    let chosen = subst (λ (o : Option Entry). IfSome o (ChosenBy (known_votes w it) (services_below (length w.logs)) (next_of it))) c.in-Some.is c.in_ok-entry.ensures.some in (
-      none_links c.args.setting.now w c.args.client.0 it c.in-Some.entry c.last_name.result.0 c.generation.result c.requires.state.services c.in-Ok.ensures.up c.requires.one chosen c.last_name.ensures c.generation.ensures
-          (λ links. let yes = c.if-not-links_on.ensures.1 links in search rules),
+    let chosen = subst (λ (o : Option Entry). IfSome o (ChosenBy (known_votes w it) (voters_of_client c.args.setting.now it) (next_of it))) c.in-Some.is c.in_ok-entry.ensures.some in (
+      none_links c.args.setting.now w c.args.client.0 it c.in-Some.entry c.in-Ok.ensures.up c.requires.one chosen (λ links. let yes = c.if-not-links.ensures.1 links in search rules),
       refl,
     )
 
@@ -33,6 +32,6 @@ returns-clause-ok c =
     let inside : WorldView = record { logs = i.logs.items; requests = i.requests.items; clients = i.clients.items } in
     let w = c.args.self.now in
     let it = c.in-Ok.c.now in
-    let chosen = subst (λ (o : Option Entry). IfSome o (ChosenBy (known_votes w it) (services_below (length w.logs)) (next_of it))) c.in-Some.is c.in_ok-entry.ensures.some in
-    learnt c.args.setting.now inside w c.args.client.0 it c.index_mut.result.now c.learn.new.self c.in-Some.entry c.last_name.result.0 c.generation.result c.self.view_is c.requires.state.services c.in-Ok.ensures.up
-    chosen c.last_name.ensures c.generation.ensures (c.if-not-links_on.ensures.0 (search rules)) c.index_mut.ensures.value c.in_ok-learn.ensures.ok
+    let chosen = subst (λ (o : Option Entry). IfSome o (ChosenBy (known_votes w it) (voters_of_client c.args.setting.now it) (next_of it))) c.in-Some.is c.in_ok-entry.ensures.some in
+    learnt c.args.setting.now inside w c.args.client.0 it c.index_mut.result.now c.learn.new.self c.in-Some.entry c.self.view_is c.in-Ok.ensures.up
+    chosen (c.if-not-links.ensures.0 (search rules)) c.index_mut.ensures.value c.in_ok-learn.ensures.ok
