@@ -18,8 +18,8 @@ use crate::config_line::{Line, ServiceLine, read_line};
 use crate::draft::{Draft, MOST};
 use ms_base::{ClientId, Name, NoMemory, ServiceId};
 use ms_object::{empty_version, name_of};
-use ms_record::{Entry, Place, Plan, PlanRow, Refusal, Setting};
-use ms_text::{Label, next_line};
+use ms_record::{Entry, Place, Plan, PlanRow, Refusal, Setting, wrong_line};
+use ms_text::{Label, first_wrong_lines, next_line};
 use std::alloc::Global;
 use std::marker::Model;
 
@@ -92,14 +92,23 @@ fn place_of(labels: &[Label], label: &str) -> Option<usize>
 pub fn read_config(alloc: Global, text: &[u8]) -> Result<Config, Refusal>
     ensures exact { ReadsConfig (config_at text.now) result }
     ensures rules { IfOk result IsConfig }
-    ensures first { (line : ℕ) → config_at text.now ≡ Err line → IsFirstWrong config_line (whole text.now) None (lines_of text.now) line }
+    ensures first { (line : ℕ) → result ≡ Err (refusals.BadInput places.Config line) → IsFirstWrong config_line (whole text.now) None (lines_of text.now) line }
+{
+    first_wrong_lines::<Option<Draft>, Config>();
+    read_whole(alloc, text)
+}
+
+/// As `read_config`.
+fn read_whole(alloc: Global, text: &[u8]) -> Result<Config, Refusal>
+    ensures exact { ReadsConfig (config_at text.now) result }
+    ensures rules { IfOk result IsConfig }
 {
     if text.is_empty() {
-        return Err(wrong_line(1));
+        return Err(wrong_line(Place::Config, 1));
     }
     let (first, rest) = next_line(text);
     let Some(draft) = read_head(alloc, first)? else {
-        return Err(wrong_line(1));
+        return Err(wrong_line(Place::Config, 1));
     };
     read_parties(alloc, text, draft, rest)
 }
@@ -112,15 +121,6 @@ pub fn config_laws()
     ensures whole { (text : List ℕ) (config : ConfigView) → config_at text ≡ Ok config → (draft : DraftView) × Says text draft × (config ≡ config_of text draft) }
     ensures whole_again { (text : List ℕ) (draft : DraftView) → Says text draft → config_at text ≡ Ok (config_of text draft) }
 {}
-
-fn wrong_line(line: u32) -> Refusal
-    ensures { result ≡ refusals.BadInput places.Config line }
-{
-    Refusal::BadInput {
-        place: Place::Config,
-        line,
-    }
-}
 
 /// What the first line says.
 fn read_head(alloc: Global, line: &[u8]) -> Result<Option<Draft>, NoMemory>
@@ -149,7 +149,7 @@ fn read_parties(
     while !rest.is_empty() {
         let (first, after) = next_line(rest);
         let Some(next) = read_party(alloc, draft, first)? else {
-            return Err(wrong_line(line));
+            return Err(wrong_line(Place::Config, line));
         };
         draft = next;
         rest = after;
@@ -157,7 +157,7 @@ fn read_parties(
     }
     match finish(text, draft) {
         Some(config) => Ok(config),
-        None => Err(wrong_line(line)),
+        None => Err(wrong_line(Place::Config, line)),
     }
 }
 
