@@ -1,6 +1,9 @@
 //! The program: `metasync WORDS` on the current folder.
 #![tactic(auto)]
 
+ghost use Rattle.metasync.specs.Endings.{Ends, EndsOnWords};
+ghost use Rattle.ms_words.specs.Commands.{word_texts};
+
 use ms_base::{FreeGate, StdSink};
 use ms_top::{FolderHouse, run};
 use std::alloc::AllocError;
@@ -22,13 +25,25 @@ fn words(rt: &HostRuntime) -> Result<Vec<String>, AllocError> {
     }
 }
 
+/// Carries out the command of the words on the current folder and standard output.
+fn exit_code(rt: &HostRuntime, words: &[String]) -> ExitCode
+    ensures { EndsOnWords (word_texts words.now) result }
+{
+    let mut house = FolderHouse::new(rt, ".");
+    let mut out = StdSink::new(io::writer(rt));
+    ExitCode::from(run(rt.alloc(), words, &mut house, &mut out, &FreeGate))
+}
+
+/// Carries out the command of the words after the program's name.
+fn ends(rt: &HostRuntime) -> ExitCode
+    ensures { Ends result }
+{
+    match words(rt) {
+        Ok(words) => exit_code(rt, &words),
+        Err(_) => ExitCode::from(8),
+    }
+}
+
 fn main(rt: HostRuntime) -> ExitCode {
-    let Ok(words) = words(&rt) else {
-        return ExitCode::from(8);
-    };
-    let Ok(mut house) = FolderHouse::new(rt.alloc(), &rt, ".") else {
-        return ExitCode::from(8);
-    };
-    let mut out = StdSink::new(io::writer(&rt));
-    ExitCode::from(run(rt.alloc(), &words, &mut house, &mut out, &FreeGate))
+    ends(&rt)
 }

@@ -36,3 +36,10 @@ text_named (pair ∷ pairs) name = if bytes_eq pair.0 name then Some pair.1 else
 -- where the texts are told, this is the text of that name
 abbrev pub HasText : InputsView → List ℕ → List ℕ → Type 0
 HasText view name text = IfSome view.texts (λ texts. text_named texts name ≡ Some text)
+
+-- what a run sees of the outside
+pub record OutsideView : Type 0 where
+  pub inputs : InputsView
+
+abbrev pub outside : {I : Type 0} → (I → InputsView) → I → OutsideView
+outside seen inputs = record { inputs = seen inputs }

@@ -1,2 +1,4 @@
 mod Running
-mod Statuses
+mod TextFaults
+mod CauseLaws
+mod RunLaws

@@ -1,30 +1,27 @@
--- The top call: what the words ask for, and what is answered. A command adds one line to `ByCommand`.
-use Rattle.std.specs.Prelude.{◌≡◌, ℕ, List, Option, Some, None}
-use Rattle.ms_base.specs.Outside.{SinkView}
+-- What a command answers; none is asked for where the words are outside the grammar. A command adds one line to `ByCommand`.
+use Rattle.std.specs.Prelude.{◌≡◌, ◌⊎◌, Option, Some, None, IsSome, Result, Err}
+use Rattle.ms_base.specs.Outside.{OutsideView}
+use Rattle.ms_record.specs.declared.refusal.Refusal.{Refusal}
 use Rattle.ms_record.specs.declared.refusal.Refusal.TheVariants as refusals
 use Rattle.ms_words.specs.declared.command.Command.{Command}
 use Rattle.ms_words.specs.declared.command.Command.TheVariants.{Audit, Drill, Hash}
 use Rattle.ms_words.specs.declared.report.Report.{Report}
-use Rattle.ms_words.specs.declared.report.Report.TheVariants as reports
-use Rattle.ms_words.specs.Commands.{command_of}
-use Rattle.ms_top.specs.Causes.{OutsideView, ByInput, OrNoMemory, Tells}
+use Rattle.ms_top.specs.Inputs.{OnInput}
 use Rattle.ms_top.specs.Audits.{AuditSays}
 use Rattle.ms_top.specs.Drills.{DrillSays}
 use Rattle.ms_top.specs.Hashes.{HashSays}
 
--- what a command answers
-abbrev pub ByCommand : Option Command → OutsideView → OutsideView → Report → Type 0
-ByCommand None old new report = report ≡ reports.Refused refusals.Usage
-ByCommand (Some (Audit file)) old new report = ByInput file AuditSays old.inputs new.inputs report
-ByCommand (Some (Drill file)) old new report = ByInput file DrillSays old.inputs new.inputs report
-ByCommand (Some (Hash file)) old new report = ByInput file HashSays old.inputs new.inputs report
+-- words that are no command touch nothing
+abbrev pub ByCommand : Option Command → OutsideView → OutsideView → Result Report Refusal → Type 0
+ByCommand None old new result = (new ≡ old) × (result ≡ Err refusals.Usage)
+ByCommand (Some (Audit file)) old new result = OnInput AuditSays file old new result
+ByCommand (Some (Drill file)) old new result = OnInput DrillSays file old new result
+ByCommand (Some (Hash file)) old new result = OnInput HashSays file old new result
 
--- what the words are answered with
-abbrev pub Answers : List (List ℕ) → OutsideView → OutsideView → Report → Type 0
-Answers words old new report = OrNoMemory report (ByCommand (command_of words) old new report)
+-- memory runs out for a command, or the command is answered
+abbrev pub Answers : Option Command → OutsideView → OutsideView → Result Report Refusal → Type 0
+Answers command old new result = (IsSome command × (result ≡ Err refusals.NoMemory)) ⊎ ByCommand command old new result
 
--- a run: one report answers the words, and its lines and status are told
-pub record Runs (words : List (List ℕ)) (old new : OutsideView) (before after : SinkView) (status : ℕ) : Type 0 where
-  pub report : Report
-  pub answers : Answers words old new report
-  pub tells : Tells report before after status
+-- memory runs out for the words of a command, and nothing is touched; or the command is answered
+abbrev pub Carries : Option Command → OutsideView → OutsideView → Result Report Refusal → Type 0
+Carries command old new result = (IsSome command × (result ≡ Err refusals.NoMemory) × (new ≡ old)) ⊎ ByCommand command old new result

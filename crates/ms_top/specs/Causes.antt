@@ -1,71 +1,73 @@
--- Causes that several commands share, and how a report is told.
-use Rattle.std.specs.Prelude.{◌≡◌, ℕ, ◌+◌, ◌≤◌, true, List, length, take, ◌⊎◌, Result, Ok, Err}
-use Rattle.std.specs.Io.KnownBytes.{Appends}
+-- Why each answer comes, by cases on the report. A row of the table of statuses is a line of `CauseOf`.
+use Rattle.std.specs.Prelude.{◌≡◌, ◌⊎◌, ℕ, ◌+◌, List, Option, Some, None, IsSome, Result, Ok, Err}
 use Rattle.ms_base.specs.Counts.{Rose}
-use Rattle.ms_base.specs.Outside.{InputsView, SinkView, HasText}
+use Rattle.ms_base.specs.Outside.{OutsideView, HasText}
 use Rattle.ms_base.specs.Reading.{HasLongText}
+use Rattle.ms_base.specs.declared.limits.TheConstants.{INPUT_BYTES}
+use Rattle.ms_base.specs.declared.names.Quantity.{Quantity}
 use Rattle.ms_base.specs.declared.names.Quantity.TheVariants as quantities
+use Rattle.ms_drill.specs.Drills.{drill_at}
 use Rattle.ms_record.specs.declared.refusal.Place.TheVariants as places
 use Rattle.ms_record.specs.declared.refusal.Refusal.{Refusal}
 use Rattle.ms_record.specs.declared.refusal.Refusal.TheVariants as refusals
+use Rattle.ms_tree.specs.Listings.{listing_at}
+use Rattle.ms_words.specs.declared.command.Command.{Command}
+use Rattle.ms_words.specs.declared.command.Command.TheVariants.{Audit, Drill, Hash}
 use Rattle.ms_words.specs.declared.report.Report.{Report}
 use Rattle.ms_words.specs.declared.report.Report.TheVariants as reports
-use Rattle.ms_words.specs.Texts.{status_of, text_of}
+use Rattle.ms_top.specs.Audits.{DumpSays, spelled_dump}
+use Rattle.ms_top.specs.Drills.{RunSays}
+use Rattle.ms_top.specs.Hashes.{FilesSay}
 
--- what the top call sees of the outside
-pub record OutsideView : Type 0 where
-  pub inputs : InputsView
+-- the input of that command has a text with this fault, and no earlier one
+pub record HasFault {A : Type 0} (command_on : List ℕ → Command) (spelled : List ℕ → Result A Refusal) (command : Option Command) (old : OutsideView) (fault : Refusal) : Type 0 where
+  pub file : List ℕ
+  pub is : command ≡ Some (command_on file)
+  pub text : List ℕ
+  pub text_of : HasText old.inputs file text
+  pub fault_is : spelled text ≡ Err fault
 
-abbrev pub most_input : ℕ
-most_input = 16777216
+-- the input of that command has a text that spells a value, of which this is the answer
+pub record HasAnswer {A : Type 0} (command_on : List ℕ → Command) (spelled : List ℕ → Result A Refusal) (Says : A → Result Report Refusal → Type 0) (command : Option Command) (old : OutsideView) (result : Result Report Refusal) : Type 0 where
+  pub file : List ℕ
+  pub is : command ≡ Some (command_on file)
+  pub text : List ℕ
+  pub text_of : HasText old.inputs file text
+  pub value : A
+  pub spells : spelled text ≡ Ok value
+  pub says : Says value result
 
--- the text of that name was read to its end
-pub record InputIs (name : List ℕ) (old new : InputsView) (text : List ℕ) : Type 0 where
-  pub text_of : HasText old name text
-  pub short : length text ≤ most_input
-  pub ended : new.ended ≡ true
+-- the input of that command is longer than it may be
+pub record HasLongInput (command_on : List ℕ → Command) (command : Option Command) (old : OutsideView) : Type 0 where
+  pub file : List ℕ
+  pub is : command ≡ Some (command_on file)
+  pub long : HasLongText old.inputs file INPUT_BYTES
 
--- an input was not read: the count of the inputs rose, or its text is too long
-abbrev pub InputFails : List ℕ → InputsView → InputsView → Refusal → Type 0
-InputFails name old new (refusals.OutsideFault places.Input) = Rose old.faults new.faults
-InputFails name old new (refusals.Limit quantities.Input value) = (value ≡ most_input + 1) × HasLongText old name most_input
-InputFails name old new _ = ⊥
+abbrev pub Audited : Option Command → OutsideView → Result Report Refusal → Type 0
+Audited = HasAnswer Audit spelled_dump DumpSays
 
--- a command over one input: the input fails, or the report is judged by its text
-abbrev pub ByInput : List ℕ → (List ℕ → Report → Type 0) → InputsView → InputsView → Report → Type 0
-ByInput name Judges old new report =
-    ((refusal : Refusal) × (report ≡ reports.Refused refusal) × InputFails name old new refusal)
-    ⊎ ((text : List ℕ) × InputIs name old new text × Judges text report)
+abbrev pub Drilled : Option Command → OutsideView → Result Report Refusal → Type 0
+Drilled = HasAnswer Drill drill_at RunSays
 
-abbrev pub no_memory : Report
-no_memory = reports.Refused refusals.NoMemory
+abbrev pub Hashed : Option Command → OutsideView → Result Report Refusal → Type 0
+Hashed = HasAnswer Hash listing_at FilesSay
 
--- memory ran out, or this
-abbrev pub OrNoMemory : Report → Type 0 → Type 0
-OrNoMemory report P = (report ≡ no_memory) ⊎ P
+-- the dump, the schedule or the listing has this fault
+abbrev pub FaultOf : Option Command → OutsideView → Refusal → Type 0
+FaultOf command old fault = HasFault Audit spelled_dump command old fault ⊎ (HasFault Drill drill_at command old fault ⊎ HasFault Hash listing_at command old fault)
 
--- memory may run out at each step
-abbrev pub Unless : Refusal → Type 0 → Type 0
-Unless refusals.NoMemory P = Unit {0}
-Unless _ P = P
+-- the input is longer than it may be
+abbrev pub LongInput : Option Command → OutsideView → Type 0
+LongInput command old = HasLongInput Audit command old ⊎ (HasLongInput Drill command old ⊎ HasLongInput Hash command old)
 
-abbrev pub ReadsInput : List ℕ → InputsView → InputsView → Result (List ℕ) Refusal → Type 0
-ReadsInput name old new (Ok text) = InputIs name old new text
-ReadsInput name old new (Err refusal) = Unless refusal (InputFails name old new refusal)
-
--- the sink failed, and a front of the lines was written
-pub record SinkFails (lines : List ℕ) (before after : SinkView) : Type 0 where
-  pub rose : Rose before.faults after.faults
-  pub count : ℕ
-  pub within : count ≤ length lines
-  pub front : Appends before.contents after.contents (take count lines)
-
--- the report's lines and its status; or the sink failed
-abbrev pub Tells : Report → SinkView → SinkView → ℕ → Type 0
-Tells report before after status =
-    ((status ≡ status_of report) × Appends before.contents after.contents (text_of report))
-    ⊎ ((status ≡ 3) × SinkFails (text_of report) before after)
-
--- the report is told, or that memory ran out
-abbrev pub TellsOrNoMemory : Report → SinkView → SinkView → ℕ → Type 0
-TellsOrNoMemory report before after status = Tells report before after status ⊎ Tells no_memory before after status
+abbrev pub CauseOf : Option Command → OutsideView → OutsideView → Report → Type 0
+CauseOf command old new (reports.Audit genesis entries) = Audited command old (Ok (reports.Audit genesis entries))
+CauseOf command old new (reports.Drill genesis entries known) = Drilled command old (Ok (reports.Drill genesis entries known))
+CauseOf command old new (reports.Hash files objects root) = Hashed command old (Ok (reports.Hash files objects root))
+CauseOf command old new (reports.Refused refusals.Usage) = command ≡ None
+CauseOf command old new (reports.Refused (refusals.BadInput place line)) = (place ≡ places.Input) × FaultOf command old (refusals.BadInput places.Input line)
+CauseOf command old new (reports.Refused (refusals.OutsideFault place)) = (place ≡ places.Input) × IsSome command × Rose old.inputs.faults new.inputs.faults
+CauseOf command old new (reports.Refused refusals.NoMemory) = IsSome command
+CauseOf command old new (reports.Refused (refusals.Split position first second)) = Audited command old (Err (refusals.Split position first second))
+CauseOf command old new (reports.Refused (refusals.Limit what value)) = ((what ≡ quantities.Input) × (value ≡ INPUT_BYTES + 1) × LongInput command old) ⊎ FaultOf command old (refusals.Limit what value)
+CauseOf command old new (reports.Refused (refusals.NotEnabled number why)) = Drilled command old (Err (refusals.NotEnabled number why))

@@ -1,6 +1,5 @@
 -- What the command `hash` answers: the tree of a listing's files, or the first fault of the listing.
 use Rattle.std.specs.Prelude.{◌≡◌, ℕ, ◌⊎◌, List, length, Result, Ok, Err}
-use Rattle.ms_base.specs.Outside.{InputsView, SinkView}
 use Rattle.ms_base.specs.declared.names.Name.{Name}
 use Rattle.ms_object.specs.Trees.{Texts}
 use Rattle.ms_record.specs.declared.refusal.Refusal.{Refusal}
@@ -9,7 +8,7 @@ use Rattle.ms_tree.specs.Listings.{listing_at}
 use Rattle.ms_tree.specs.Planting.{IsPlanted, Collide, object_texts, different}
 use Rattle.ms_words.specs.declared.report.Report.{Report}
 use Rattle.ms_words.specs.declared.report.Report.TheVariants as reports
-use Rattle.ms_top.specs.Causes.{ByInput, OrNoMemory, Tells}
+use Rattle.ms_top.specs.Inputs.{TextSays}
 
 -- how many files there are, how many different objects they have, and the root of their tree
 pub record IsHash (files : FileList) (count objects : ℕ) (root : Name) : Type 0 where
@@ -18,21 +17,9 @@ pub record IsHash (files : FileList) (count objects : ℕ) (root : Name) : Type 
   pub planted : IsPlanted files store root
   pub objects_is : Collide (object_texts 64 files) ⊎ (objects ≡ different (object_texts 64 files))
 
-abbrev pub FilesSay : FileList → Report → Type 0
-FilesSay files (reports.Hash count objects root) = IsHash files count objects root
-FilesSay files _ = ⊥
-
--- by the files that are listed, or the first fault
-abbrev pub ListingSays : Result FileList Refusal → Report → Type 0
-ListingSays (Ok files) report = FilesSay files report
-ListingSays (Err fault) report = report ≡ reports.Refused fault
+abbrev pub FilesSay : FileList → Result Report Refusal → Type 0
+FilesSay files result = (count : ℕ) × (objects : ℕ) × (root : Name) × IsHash files count objects root × (result ≡ Ok (reports.Hash count objects root))
 
 -- what the text of a listing is answered with
-abbrev pub HashSays : List ℕ → Report → Type 0
-HashSays text report = ListingSays (listing_at text) report
-
--- one report answers the input of that name, and its lines and status are told
-pub record HashTells (name : List ℕ) (old new : InputsView) (before after : SinkView) (status : ℕ) : Type 0 where
-  pub report : Report
-  pub answers : OrNoMemory report (ByInput name HashSays old new report)
-  pub tells : Tells report before after status
+abbrev pub HashSays : List ℕ → Result Report Refusal → Type 0
+HashSays = TextSays listing_at FilesSay

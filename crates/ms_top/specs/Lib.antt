@@ -1,6 +1,10 @@
-pub mod Causes
+pub mod Steps
+pub mod Inputs
 pub mod Audits
-pub mod Hashes
 pub mod Drills
+pub mod Hashes
+pub mod Verbs
 pub mod Answers
-pub mod Statuses
+pub mod Telling
+pub mod Causes
+pub mod Runs

@@ -1,7 +1,7 @@
 //! Drills over texts in memory. The expected lines were computed by `bench/drill_reference.py`.
 
-use crate::drills::drill;
-use crate::tests::{answers, inputs, repeated};
+use crate::tests::{Case, answers, inputs};
+use crate::top::drill;
 use ms_base::VecSink;
 use std::alloc::Global;
 use std::test::*;
@@ -50,8 +50,90 @@ const STOPPED_TOLD: &str = "0 8dafeee32b60ad97c4eb37e4657bc895ceec4ccdd5b307d563
 1 d30f5f2af2fff6f217eb9c00c8bbdf94393a1ae1164d98440f95613409cb7435 push 0 1 5dcd779c992ce8abd8d1d159273fbb738b716051a07d5b005f2e672f18a67455\n\
 end 1\nclient 0 knows 0\nclient 1 knows 1\n";
 
-/// Whether the schedule of these parts is answered so, by the call and by the words.
-fn drills(alloc: Global, parts: &[&str], lines: &str, wanted: u8) -> bool {
+/// A bid of client 0 that one of three services has promised.
+const BEGUN: &str =
+    "metasync-drill 1 3 2 1\nstart 0\nbid 0 1 -\ndeliver 0\ndeliver 1\nread 0 0 1\n";
+
+const HEAD: &str = "metasync-drill 1 1 1 1\n";
+
+/// Schedules.
+const SCHEDULES: [Case; 35] = [
+    (&[ONE_SERVICE], ONE_SERVICE_TOLD, 0),
+    (&[ONE_SERVICE, TURN, "drop 0 2\n"], "event 18 turned\n", 16),
+    (&[ONE_SERVICE, TURN, "deliver 3\ndrop 0 2\n"], TURN_TOLD, 0),
+    (
+        &[
+            ONE_SERVICE,
+            TURN,
+            "deliver 3\ndrop 0 2\nplace 0 1 4400000000\n",
+        ],
+        "event 20 generation\n",
+        16,
+    ),
+    (&[OVERTAKEN], OVERTAKEN_TOLD, 0),
+    (&[STOPPED], STOPPED_TOLD, 0),
+    (&[BEGUN, "read 0 1 1\noffer 0\n"], "event 7 nothing\n", 16),
+    (&[BEGUN, "offer 0\n"], "event 6 promises\n", 16),
+    (&[HEAD, "stop 0\n"], "event 1 off\n", 16),
+    (&[HEAD, "start 1\n"], "event 1 client\n", 16),
+    (&[HEAD, "start 0\nstart 0\n"], "event 2 on\n", 16),
+    (&[HEAD, "start 0\nbid 0 0 -\n"], "event 2 round\n", 16),
+    (
+        &[HEAD, "start 0\nbid 0 4294967295 -\n"],
+        "event 2 round\n",
+        16,
+    ),
+    (&[HEAD, "start 0\nturn 0 1 1 1 1 1\n"], "event 2 plan\n", 16),
+    (
+        &[HEAD, "start 0\nturn 0 1 1 1 1 0\n"],
+        "event 2 placed\n",
+        16,
+    ),
+    (&[HEAD, "deliver 0\n"], "event 1 request\n", 16),
+    (&[HEAD, "start 0\nread 0 1 0\n"], "event 2 service\n", 16),
+    (&[HEAD, "start 0\nread 0 0 1\n"], "event 2 prefix\n", 16),
+    (&[HEAD, "start 0\noffer 0\n"], "event 2 bid\n", 16),
+    (&[HEAD, "start 0\nlearn 0\n"], "event 2 chosen\n", 16),
+    (&[HEAD, "place 1 1 00\n"], "event 1 service\n", 16),
+    (&[HEAD, "place 0 0 00\n"], "event 1 generation\n", 16),
+    (&[HEAD, "drop 0 2\n"], "event 1 turned\n", 16),
+    (&[HEAD, "drop 1 0\n"], "event 1 service\n", 16),
+    (&[""], "bad input 1\n", 2),
+    (&["metasync-drill 1 3 2 4\n"], "bad input 1\n", 2),
+    (&["metasync-drill 1 17 2 1\n"], "bad input 1\n", 2),
+    (&["metasync-drill 1 1 1 1 \n"], "bad input 1\n", 2),
+    (&["metasync-drill 1 1 1 1\nstart\n"], "bad input 2\n", 2),
+    (
+        &["metasync-drill 1 1 1 1\nstart 0\nplace 0 1 -\n"],
+        "bad input 3\n",
+        2,
+    ),
+    (
+        &["metasync-drill 1 1 1 1\nturn 0 1 1 1 1 0,0\n"],
+        "bad input 2\n",
+        2,
+    ),
+    (
+        &["metasync-drill 1 1 1 1\nturn 0 1 1 1 2 0\n"],
+        "bad input 2\n",
+        2,
+    ),
+    (
+        &["metasync-drill 1 1 1 1\ndeliver 18446744073709551616\n"],
+        "bad input 2\n",
+        2,
+    ),
+    (
+        &["metasync-drill 1 1 1 1\nbid 0 01 -\n"],
+        "bad input 2\n",
+        2,
+    ),
+    (&["metasync-drill 1 1 1 1\n\n"], "bad input 2\n", 2),
+];
+
+/// Whether the schedule is answered so, by the call and by the words.
+fn drills(alloc: Global, case: &Case) -> bool {
+    let (parts, lines, wanted) = *case;
     let Ok(mut inputs) = inputs(alloc, parts) else {
         return false;
     };
@@ -63,121 +145,8 @@ fn drills(alloc: Global, parts: &[&str], lines: &str, wanted: u8) -> bool {
 }
 
 #[test]
-fn offer_needs_promises(rt: HostRuntime) {
-    let begin = "metasync-drill 1 3 2 1\nstart 0\nbid 0 1 -\ndeliver 0\ndeliver 1\nread 0 0 1\n";
-    assert!(rt;
-        drills(
-            rt.alloc(),
-            &[begin, "read 0 1 1\noffer 0\n"],
-            "event 7 nothing\n",
-            16
-        )
-    );
-    assert!(rt; drills(rt.alloc(), &[begin, "offer 0\n"], "event 6 promises\n", 16));
-}
-
-#[test]
-fn drill_of_one_service(rt: HostRuntime) {
-    assert!(rt; drills(rt.alloc(), &[ONE_SERVICE], ONE_SERVICE_TOLD, 0));
-}
-
-#[test]
-fn drop_before_the_turn(rt: HostRuntime) {
-    let parts = [ONE_SERVICE, TURN, "drop 0 2\n"];
-    assert!(rt; drills(rt.alloc(), &parts, "event 18 turned\n", 16));
-}
-
-#[test]
-fn drop_after_the_turn(rt: HostRuntime) {
-    let parts = [ONE_SERVICE, TURN, "deliver 3\ndrop 0 2\n"];
-    assert!(rt; drills(rt.alloc(), &parts, TURN_TOLD, 0));
-}
-
-#[test]
-fn place_below_the_floor(rt: HostRuntime) {
-    let parts = [
-        ONE_SERVICE,
-        TURN,
-        "deliver 3\ndrop 0 2\nplace 0 1 4400000000\n",
-    ];
-    assert!(rt; drills(rt.alloc(), &parts, "event 20 generation\n", 16));
-}
-
-#[test]
-fn bidders_overtake_each_other(rt: HostRuntime) {
-    assert!(rt; drills(rt.alloc(), &[OVERTAKEN], OVERTAKEN_TOLD, 0));
-}
-
-#[test]
-fn a_stopped_client_is_settled(rt: HostRuntime) {
-    assert!(rt; drills(rt.alloc(), &[STOPPED], STOPPED_TOLD, 0));
-}
-
-#[test]
-fn conditions_by_their_words(rt: HostRuntime) {
-    for (events, lines) in [
-        ("stop 0\n", "event 1 off\n"),
-        ("start 1\n", "event 1 client\n"),
-        ("start 0\nstart 0\n", "event 2 on\n"),
-        ("start 0\nbid 0 0 -\n", "event 2 round\n"),
-        ("start 0\nbid 0 4294967295 -\n", "event 2 round\n"),
-        ("start 0\nturn 0 1 1 1 1 1\n", "event 2 plan\n"),
-        ("start 0\nturn 0 1 1 1 1 0\n", "event 2 placed\n"),
-        ("deliver 0\n", "event 1 request\n"),
-        ("start 0\nread 0 1 0\n", "event 2 service\n"),
-        ("start 0\nread 0 0 1\n", "event 2 prefix\n"),
-        ("start 0\noffer 0\n", "event 2 bid\n"),
-        ("start 0\nlearn 0\n", "event 2 chosen\n"),
-        ("place 1 1 00\n", "event 1 service\n"),
-        ("place 0 0 00\n", "event 1 generation\n"),
-        ("drop 0 2\n", "event 1 turned\n"),
-        ("drop 1 0\n", "event 1 service\n"),
-    ] {
-        assert!(rt; drills(rt.alloc(), &["metasync-drill 1 1 1 1\n", events], lines, 16));
+fn drills_of_schedules(rt: HostRuntime) {
+    for case in &SCHEDULES {
+        assert!(rt; drills(rt.alloc(), case));
     }
-}
-
-#[test]
-fn bad_drill_lines(rt: HostRuntime) {
-    for (schedule, lines) in [
-        ("", "bad input 1\n"),
-        ("metasync-drill 1 3 2 4\n", "bad input 1\n"),
-        ("metasync-drill 1 17 2 1\n", "bad input 1\n"),
-        ("metasync-drill 1 1 1 1 \n", "bad input 1\n"),
-        ("metasync-drill 1 1 1 1\nstart\n", "bad input 2\n"),
-        (
-            "metasync-drill 1 1 1 1\nstart 0\nplace 0 1 -\n",
-            "bad input 3\n",
-        ),
-        (
-            "metasync-drill 1 1 1 1\nturn 0 1 1 1 1 0,0\n",
-            "bad input 2\n",
-        ),
-        (
-            "metasync-drill 1 1 1 1\nturn 0 1 1 1 2 0\n",
-            "bad input 2\n",
-        ),
-        (
-            "metasync-drill 1 1 1 1\ndeliver 18446744073709551616\n",
-            "bad input 2\n",
-        ),
-        ("metasync-drill 1 1 1 1\nbid 0 01 -\n", "bad input 2\n"),
-        ("metasync-drill 1 1 1 1\n\n", "bad input 2\n"),
-    ] {
-        assert!(rt; drills(rt.alloc(), &[schedule], lines, 2));
-    }
-}
-
-#[test]
-fn more_than_ten_thousand_events(rt: HostRuntime) {
-    let alloc = rt.alloc();
-    let events = repeated(alloc, "x\n", 10_001).expect(&rt, "memory");
-    assert!(rt;
-        drills(
-            alloc,
-            &["metasync-drill 1 1 1 1\n", &events],
-            "limit events 10001\n",
-            11
-        )
-    );
 }

@@ -2,62 +2,36 @@
 
 ghost use Rattle.std.specs.Prelude.{◌≡◌, ◌≤◌, length, IfOk};
 ghost use Rattle.ms_record.specs.Settings.{IsSetting};
-ghost use Rattle.ms_top.specs.Causes.{ByInput, OrNoMemory};
-ghost use Rattle.ms_top.specs.Drills.{DrillSays, DrillTells, LeadsTo, RunSays, RunsEvents, known_of};
+ghost use Rattle.ms_base.specs.declared.limits.TheConstants.{INPUT_BYTES};
+ghost use Rattle.ms_top.specs.Drills.{DrillSays, LeadsTo, RunSays, RunsEvents, known_of};
+ghost use Rattle.ms_top.specs.Steps.{OrNoMemory};
 
-use crate::input::read_input;
-use crate::top::tell;
-use ms_base::{ClientId, Inputs, Items, NoMemory, Sink};
-use ms_world::World;
+use ms_base::{ClientId, Items, NoMemory};
 use ms_drill::{Drill, read_drill};
 use ms_record::{Refusal, entry_name};
 use ms_words::{Known, Report};
+use ms_world::World;
 use std::alloc::Global;
 
-/// The schedule of that name is run; the agreed chain and what each client knows are written to `out`; answers the status.
-///
-/// Waits for nobody.
-pub fn drill<I: Inputs, S: Sink>(alloc: Global, name: &str, inputs: &mut I, out: &mut S) -> u8
-    ensures { DrillTells name.now (I.seen inputs.old) (I.seen inputs.new) (S.seen out.old) (S.seen out.new) result }
-{
-    let report = drill_report(alloc, name, inputs);
-    tell(alloc, &report, out)
-}
-
-/// The report on the schedule of that name.
-pub(crate) fn drill_report<I: Inputs>(alloc: Global, name: &str, inputs: &mut I) -> Report
-    ensures { OrNoMemory result (ByInput name.now DrillSays (I.seen inputs.old) (I.seen inputs.new) result) }
-{
-    match read_input(alloc, name, inputs) {
-        Ok(text) => report_on(alloc, text.as_slice()),
-        Err(refusal) => Report::Refused { refusal },
-    }
-}
-
-/// The report on the text of a schedule.
-fn report_on(alloc: Global, text: &[u8]) -> Report
-    requires { length text.now ≤ 16777216 }
-    ensures { OrNoMemory result (DrillSays text.now result) }
+/// The answer on the text of a schedule.
+pub(crate) fn drill_text(alloc: Global, text: &[u8]) -> Result<Report, Refusal>
+    requires { length text.now ≤ INPUT_BYTES }
+    ensures { DrillSays text.now result }
 {
     match read_drill(alloc, text) {
-        Ok(drill) => report_run(alloc, &drill),
-        Err(refusal) => Report::Refused { refusal },
+        Ok(drill) => on_drill(alloc, &drill),
+        Err(refusal) => Err(refusal),
     }
 }
 
-/// The report on a schedule.
-fn report_run(alloc: Global, drill: &Drill) -> Report
+/// The answer on a schedule.
+fn on_drill(alloc: Global, drill: &Drill) -> Result<Report, Refusal>
     requires { IsSetting drill.now.setting }
     ensures { OrNoMemory result (RunSays drill.now result) }
 {
     match run_events(alloc, drill) {
-        Ok(world) => match report_world(alloc, drill, &world) {
-            Ok(report) => report,
-            Err(_) => Report::Refused {
-                refusal: Refusal::NoMemory,
-            },
-        },
-        Err(refusal) => Report::Refused { refusal },
+        Ok(world) => on_world(alloc, drill, &world),
+        Err(refusal) => Err(refusal),
     }
 }
 
@@ -74,9 +48,9 @@ fn run_events(alloc: Global, drill: &Drill) -> Result<World, Refusal>
 }
 
 /// The chain of the world's logs, and what its clients know.
-fn report_world(alloc: Global, drill: &Drill, world: &World) -> Result<Report, NoMemory>
+fn on_world(alloc: Global, drill: &Drill, world: &World) -> Result<Report, Refusal>
     requires { LeadsTo drill.now world.now }
-    ensures { IfOk result (RunSays drill.now) }
+    ensures { OrNoMemory result (RunSays drill.now result) }
 {
     world.shows();
     Ok(Report::Drill {

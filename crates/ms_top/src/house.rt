@@ -1,8 +1,8 @@
 //! The house on a real folder. What its files hold is not told.
 
-ghost use Rattle.std.specs.Prelude.{◌≡◌, None};
+ghost use Rattle.std.specs.Prelude.{◌≡◌, None, false};
 
-use ms_base::{Bytes, Inputs, MOST_INPUT, NoMemory, ReadError, Source, StdSource, read_all};
+use ms_base::{Bytes, Inputs, MOST_INPUT, ReadError, Source, StdSource, read_all};
 use std::alloc::Global;
 use std::fs;
 use std::path::PathBuf;
@@ -12,20 +12,22 @@ use std::rt::Files;
 #[derive(Drop)]
 pub struct FolderHouse<'a, R> {
     rt: &'a R,
-    folder: PathBuf,
+    folder: &'a str,
     ended: bool,
     faults: u64,
 }
 
 impl<'a, R> FolderHouse<'a, R> {
-    pub fn new(alloc: Global, rt: &'a R, folder: &str) -> Result<FolderHouse<'a, R>, NoMemory> {
-        let folder = PathBuf::from_str(alloc, folder)?;
-        Ok(FolderHouse {
+    /// The house on that folder, whose faults are counted from 0.
+    pub fn new(rt: &'a R, folder: &'a str) -> FolderHouse<'a, R>
+        ensures { (result.faults ≡ 0) × (result.ended ≡ false) }
+    {
+        FolderHouse {
             rt,
             folder,
             ended: false,
             faults: 0,
-        })
+        }
     }
 }
 
@@ -37,7 +39,7 @@ where
 
     fn input(&mut self, alloc: Global, name: &str) -> Result<Bytes, ReadError> {
         self.ended = false;
-        let path = self.folder.join(alloc, name)?;
+        let path = PathBuf::from_str(alloc, self.folder)?.join(alloc, name)?;
         let Ok(file) = fs::open(self.rt, path.as_path()) else {
             self.faults = self.faults.saturating_add(1);
             return Err(ReadError::Failed);

@@ -1,19 +1,18 @@
-//! The top call: all that the program does.
+//! The calls of the program.
 
 ghost use Rattle.std.specs.Prelude.{◌≡◌, Some};
 ghost use Rattle.std.specs.Str.{IsUtf8};
-ghost use Rattle.ms_words.specs.Commands.{word_texts, IsText};
-ghost use Rattle.ms_top.specs.Answers.{Answers, ByCommand, Runs};
-ghost use Rattle.ms_top.specs.Causes.{OrNoMemory, Tells, TellsOrNoMemory};
-ghost use Rattle.ms_words.specs.Texts.{text_of};
-ghost use Rattle.ms_top.specs.Statuses.{HasCauses};
+ghost use Rattle.ms_base.specs.Outside.{outside};
+ghost use Rattle.ms_top.specs.Answers.{ByCommand, Carries};
+ghost use Rattle.ms_top.specs.Runs.{Runs};
+ghost use Rattle.ms_words.specs.Commands.{command_of, command_with, word_texts, IsText};
+ghost use Rattle.ms_words.specs.declared.command.Command.TheVariants as commands;
 
-use crate::audits::audit_report;
-use crate::drills::drill_report;
-use crate::hashes::hash_report;
-use ms_base::{Bytes, Gate, Inputs, Sink, write_all};
+use crate::input::on_input;
+use crate::tell::tell;
+use ms_base::{Bytes, Gate, Inputs, Sink};
 use ms_record::Refusal;
-use ms_words::{Command, Report, WordsError, print_report, read_words, status};
+use ms_words::{Command, Report, Verb, WordsError, read_words};
 use std::alloc::Global;
 
 /// Carries out the command of the words, writes its report to `out`, and answers the status:
@@ -27,66 +26,79 @@ pub fn run<H: Inputs, S: Sink, G: Gate>(
     out: &mut S,
     _gate: &G,
 ) -> u8
-    ensures runs { Runs (word_texts words.now) (record { inputs = H.seen house.old }) (record { inputs = H.seen house.new }) (S.seen out.old) (S.seen out.new) result }
-    ensures causes { HasCauses (word_texts words.now) (record { inputs = H.seen house.old }) (record { inputs = H.seen house.new }) (S.seen out.old) (S.seen out.new) result }
+    ensures { Runs (command_of (word_texts words.now)) (outside H.seen house.old) (outside H.seen house.new) (S.seen out.old) (S.seen out.new) result }
 {
-    let report = answer(alloc, words, house);
-    tell(alloc, &report, out)
+    let given = answer(alloc, words, house);
+    tell(alloc, given, out)
 }
 
-/// Writes the lines of a report, or that memory ran out, and answers the status.
-#[tactic(auto, unfolding(ms_words::specs::Texts::refusal_text))]
-pub(crate) fn tell<S: Sink>(alloc: Global, report: &Report, out: &mut S) -> u8
-    ensures { TellsOrNoMemory report.now (S.seen out.old) (S.seen out.new) result }
+/// The agreed chain of the dump of that name, or its split, is written to `out`; answers the status.
+///
+/// Waits for nobody.
+pub fn audit<I: Inputs, S: Sink>(alloc: Global, name: &str, inputs: &mut I, out: &mut S) -> u8
+    ensures { Runs (Some (commands.Audit name.now)) (outside I.seen inputs.old) (outside I.seen inputs.new) (S.seen out.old) (S.seen out.new) result }
 {
-    let mut text = Vec::new(alloc);
-    match print_report(report, &mut text) {
-        Ok(()) => write(report, &text, out),
-        Err(_) => write(
-            &Report::Refused {
-                refusal: Refusal::NoMemory,
-            },
-            b"no memory\n",
-            out,
-        ),
-    }
+    judge(alloc, Verb::Audit, name, inputs, out)
 }
 
-/// Writes the lines of a report, and answers its status.
-fn write<S: Sink>(report: &Report, text: &[u8], out: &mut S) -> u8
-    requires { text.now ≡ text_of report.now }
-    ensures { Tells report.now (S.seen out.old) (S.seen out.new) result }
+/// The schedule of that name is run; the agreed chain and what each client knows are written to `out`; answers the status.
+///
+/// Waits for nobody.
+pub fn drill<I: Inputs, S: Sink>(alloc: Global, name: &str, inputs: &mut I, out: &mut S) -> u8
+    ensures { Runs (Some (commands.Drill name.now)) (outside I.seen inputs.old) (outside I.seen inputs.new) (S.seen out.old) (S.seen out.new) result }
 {
-    match write_all(out, text) {
-        Ok(()) => status(report),
-        Err(_) => 3,
-    }
+    judge(alloc, Verb::Drill, name, inputs, out)
+}
+
+/// The number of files and of objects of the listing of that name, and the root of its tree, are written to `out`;
+/// answers the status.
+///
+/// Waits for nobody.
+pub fn hash_listing<I: Inputs, S: Sink>(
+    alloc: Global,
+    name: &str,
+    inputs: &mut I,
+    out: &mut S,
+) -> u8
+    ensures { Runs (Some (commands.Hash name.now)) (outside I.seen inputs.old) (outside I.seen inputs.new) (S.seen out.old) (S.seen out.new) result }
+{
+    judge(alloc, Verb::Hash, name, inputs, out)
+}
+
+/// The answer on the input of that name is told; answers the status.
+fn judge<I: Inputs, S: Sink>(
+    alloc: Global,
+    verb: Verb,
+    name: &str,
+    inputs: &mut I,
+    out: &mut S,
+) -> u8
+    ensures { Runs (Some (command_with verb name.now)) (outside I.seen inputs.old) (outside I.seen inputs.new) (S.seen out.old) (S.seen out.new) result }
+{
+    let given = on_input(alloc, verb, name, inputs);
+    tell(alloc, given, out)
 }
 
 /// What the words are answered with.
-fn answer<H: Inputs>(alloc: Global, words: &[String], house: &mut H) -> Report
-    ensures { Answers (word_texts words.now) (record { inputs = H.seen house.old }) (record { inputs = H.seen house.new }) result }
+fn answer<H: Inputs>(alloc: Global, words: &[String], house: &mut H) -> Result<Report, Refusal>
+    ensures { Carries (command_of (word_texts words.now)) (outside H.seen house.old) (outside H.seen house.new) result }
 {
     match read_words(alloc, words) {
         Ok(command) => carry_out(alloc, &command, house),
-        Err(WordsError::Usage) => Report::Refused {
-            refusal: Refusal::Usage,
-        },
-        Err(WordsError::NoMemory) => Report::Refused {
-            refusal: Refusal::NoMemory,
-        },
+        Err(WordsError::Usage) => Err(Refusal::Usage),
+        Err(WordsError::NoMemory) => Err(Refusal::NoMemory),
     }
 }
 
 /// What a command answers.
-fn carry_out<H: Inputs>(alloc: Global, command: &Command, house: &mut H) -> Report
+fn carry_out<H: Inputs>(alloc: Global, command: &Command, house: &mut H) -> Result<Report, Refusal>
     requires { IsText command.now }
-    ensures { OrNoMemory result (ByCommand (Some command.now) (record { inputs = H.seen house.old }) (record { inputs = H.seen house.new }) result) }
+    ensures { ByCommand (Some command.now) (outside H.seen house.old) (outside H.seen house.new) result }
 {
     match command {
-        Command::Audit { file } => audit_report(alloc, text_of_name(file), house),
-        Command::Drill { file } => drill_report(alloc, text_of_name(file), house),
-        Command::Hash { file } => hash_report(alloc, text_of_name(file), house),
+        Command::Audit { file } => on_input(alloc, Verb::Audit, text_of_name(file), house),
+        Command::Drill { file } => on_input(alloc, Verb::Drill, text_of_name(file), house),
+        Command::Hash { file } => on_input(alloc, Verb::Hash, text_of_name(file), house),
     }
 }
 

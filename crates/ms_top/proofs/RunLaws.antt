@@ -1,0 +1,154 @@
+-- What an answer that was told leaves.
+use Rattle.std.proofs.Common.{◌≡◌, ◌≢◌, ℕ, ◌≤◌, ◌<◌, List, Option, Some, None, IsSome, Result, Ok, Err, ◌⊎◌, inl, inr, refl, sym, ap, ◌∙◌, subst, arith}
+use Rattle.ms_base.specs.Counts.{Rose}
+use Rattle.ms_base.specs.Outside.{InputsView, OutsideView, SinkView}
+use Rattle.ms_record.specs.declared.refusal.Refusal.{Refusal}
+use Rattle.ms_record.specs.declared.refusal.Refusal.TheVariants as refusals
+use Rattle.ms_words.specs.declared.command.Command.{Command}
+use Rattle.ms_words.specs.declared.command.Command.TheVariants.{Audit, Drill, Hash}
+use Rattle.ms_words.specs.declared.report.Report.{Report}
+use Rattle.ms_words.specs.declared.report.Report.TheVariants as reports
+use Rattle.ms_words.specs.Texts.{status_of}
+use Rattle.ms_top.specs.Answers.{Answers, ByCommand, Carries}
+use Rattle.ms_top.specs.Audits.{AuditSays}
+use Rattle.ms_top.specs.Causes.{CauseOf}
+use Rattle.ms_top.specs.Drills.{DrillSays}
+use Rattle.ms_top.specs.Hashes.{HashSays}
+use Rattle.ms_top.specs.Inputs.{InputGives, OnInput, ReadsInput}
+use Rattle.ms_top.specs.Runs.{Runs}
+use Rattle.ms_top.specs.Steps.{Then}
+use Rattle.ms_top.specs.Telling.{GoesOn, SinkGoesOn, Tells, TellsOrNoMemory, no_memory, report_of}
+use Rattle.ms_top.specs.Verbs.{VerbSays}
+use Rattle.ms_words.specs.Commands.{command_with}
+use Rattle.ms_words.specs.declared.command.Verb.{Verb}
+use Rattle.ms_words.specs.declared.command.Verb.TheVariants as verbs
+use Rattle.ms_top.proofs.CauseLaws.{cause_of}
+
+-- ---- the next run may come
+
+stays : (old new : OutsideView) → new ≡ old → GoesOn old new
+stays old new same = subst (GoesOn old) (sym same) (record { texts = refl; later = omega arith })
+
+on_then : (old mid new : OutsideView) → GoesOn old mid → GoesOn mid new → GoesOn old new
+on_then old mid new a b = record { texts = b.texts ∙ a.texts; later = omega (arith, a.later, b.later) }
+
+-- a step of two parts: each leaves what the next one needs
+then_on : {A B : Type 0} (First : OutsideView → OutsideView → Result A Refusal → Type 0) (Rest : A → OutsideView → OutsideView → Result B Refusal → Type 0) (old new : OutsideView) (result : Result B Refusal)
+    → ((mid : OutsideView) (r : Result A Refusal) → First old mid r → GoesOn old mid)
+    → ((a : A) (mid : OutsideView) → Rest a mid new result → GoesOn mid new)
+    → Then First Rest old new result → GoesOn old new
+then_on First Rest old new result first rest (inl h) = first new (Err h.0) h.1
+then_on First Rest old new result first rest (inr h) = on_then old h.1 new (first h.1 (Ok h.0) h.2) (rest h.0 h.1 h.3)
+
+input_on : (Says : List ℕ → Result Report Refusal → Type 0) (file : List ℕ) (old new : OutsideView) (result : Result Report Refusal) → OnInput Says file old new result → GoesOn old new
+input_on Says file old new result (inl h) = record { texts = h.1.texts; later = h.1.later }
+input_on Says file old new result (inr h) = on_then old h.1 new (record { texts = h.2.texts; later = h.2.later }) (stays h.1 new h.3.0)
+
+command_on : (asked : Option Command) (old new : OutsideView) (result : Result Report Refusal) → ByCommand asked old new result → GoesOn old new
+command_on None old new result h = stays old new h.0
+command_on (Some (Audit file)) old new result h = input_on AuditSays file old new result h
+command_on (Some (Drill file)) old new result h = input_on DrillSays file old new result h
+command_on (Some (Hash file)) old new result h = input_on HashSays file old new result h
+
+-- ---- a fault has its count
+
+-- a fault, or no memory
+abbrev IsFault : Result Report Refusal → Type 0
+IsFault result = (status_of (report_of result) ≡ 3) ⊎ (status_of (report_of result) ≡ 8)
+
+as_fault : (result other : Result Report Refusal) → result ≡ other → IsFault other → IsFault result
+as_fault result other e h = subst IsFault (sym e) h
+
+refused_rises : (file : List ℕ) (old new : InputsView) (refusal : Refusal) → InputGives file old new (Err refusal) → old.faults < new.faults → IsFault (Err refusal)
+refused_rises file old new refusal (inl h) rises = subst (λ (r : Refusal). IsFault (Err r)) (sym h.0) (inl refl)
+refused_rises file old new refusal (inr (inl h)) rises = let same = h.2 in absurd (omega (arith, same, rises))
+refused_rises file old new refusal (inr (inr h)) rises = let same = h.1 in absurd (omega (arith, same, rises))
+
+-- the count of the inputs rises with a fault alone
+input_rises : (Says : List ℕ → Result Report Refusal → Type 0) (file : List ℕ) (old new : OutsideView) (result : Result Report Refusal) → OnInput Says file old new result
+    → old.inputs.faults < new.inputs.faults → IsFault result
+input_rises Says file old new result (inl h) rises = as_fault result _ h.2 (refused_rises file old.inputs new.inputs h.0 h.1.gives rises)
+input_rises Says file old new result (inr h) rises =
+    let same : h.1.inputs.faults ≡ old.inputs.faults = h.2.gives.steady in
+    let end : new.inputs.faults ≡ h.1.inputs.faults = ap (λ (v : OutsideView). v.inputs.faults) h.3.0 in
+    absurd (omega (arith, same, end, rises))
+
+command_rises : (asked : Option Command) (old new : OutsideView) (result : Result Report Refusal) → ByCommand asked old new result → old.inputs.faults < new.inputs.faults → IsFault result
+command_rises None old new result h rises = let same : new.inputs.faults ≡ old.inputs.faults = ap (λ (v : OutsideView). v.inputs.faults) h.0 in absurd (omega (arith, same, rises))
+command_rises (Some (Audit file)) old new result h rises = input_rises AuditSays file old new result h rises
+command_rises (Some (Drill file)) old new result h rises = input_rises DrillSays file old new result h rises
+command_rises (Some (Hash file)) old new result h rises = input_rises HashSays file old new result h rises
+
+module _ (command : Option Command) (old new : OutsideView) where
+  rose : (report : Report) → CauseOf command old new report → status_of report ≡ 3 → Rose old.inputs.faults new.inputs.faults
+  rose (reports.Audit genesis entries) c e = absurd (omega (arith, e))
+  rose (reports.Drill genesis entries known) c e = absurd (omega (arith, e))
+  rose (reports.Hash files objects root) c e = absurd (omega (arith, e))
+  rose (reports.Refused refusals.Usage) c e = absurd (omega (arith, e))
+  rose (reports.Refused (refusals.BadInput place line)) c e = absurd (omega (arith, e))
+  rose (reports.Refused (refusals.OutsideFault place)) c e = c.2
+  rose (reports.Refused refusals.NoMemory) c e = absurd (omega (arith, e))
+  rose (reports.Refused (refusals.Split position first second)) c e = absurd (omega (arith, e))
+  rose (reports.Refused (refusals.Limit what value)) c e = absurd (omega (arith, e))
+  rose (reports.Refused (refusals.NotEnabled number why)) c e = absurd (omega (arith, e))
+
+  caused : (report : Report) (before after : SinkView) (status : ℕ) → CauseOf command old new report → Tells report before after status → status ≡ 3
+      → Rose old.inputs.faults new.inputs.faults ⊎ Rose before.faults after.faults
+  caused report before after status cause (inl t) e = inl (rose report cause (sym t.0 ∙ e))
+  caused report before after status cause (inr t) e = inr t.1.rose
+
+  by_sink : (report : Report) (before after : SinkView) (status : ℕ) → Tells report before after status → before.faults < after.faults → status ≡ 3
+  by_sink report before after status (inl t) rises = let same = t.1.steady in absurd (omega (arith, same, rises))
+  by_sink report before after status (inr t) rises = t.0
+
+  by_inputs : (report : Report) (before after : SinkView) (status : ℕ) → Tells report before after status → (status_of report ≡ 3) ⊎ (status_of report ≡ 8) → (status ≡ 3) ⊎ (status ≡ 8)
+  by_inputs report before after status (inl t) (inl e) = inl (t.0 ∙ e)
+  by_inputs report before after status (inl t) (inr e) = inr (t.0 ∙ e)
+  by_inputs report before after status (inr t) said = inl t.0
+
+  -- an answer that was told, where the count of the inputs rose with a fault alone
+  told : (result : Result Report Refusal) (before after : SinkView) (status : ℕ) → GoesOn old new → (old.inputs.faults < new.inputs.faults → IsFault result) → Answers command old new result
+      → Tells (report_of result) before after status → SinkGoesOn before after → Runs command old new before after status
+  told result before after status goes_on rises answers tells sink =
+      let cause = cause_of command old new result answers in
+      record {
+        result = result;
+        answers = answers;
+        cause = cause;
+        tells = tells;
+        goes_on = goes_on;
+        sink = sink;
+        faulted = record {
+          caused = caused (report_of result) before after status cause tells;
+          by_sink = by_sink (report_of result) before after status tells;
+          by_inputs = λ r. by_inputs (report_of result) before after status tells (rises r);
+        };
+      }
+
+  -- what is not told as wrong words is the answer of a command
+  is_asked : (result : Result Report Refusal) → Answers command old new result → report_of result ≢ reports.Refused refusals.Usage → IsSome command
+  is_asked result (inl h) other = h.0
+  is_asked result (inr h) other = by command h
+    where
+      by : (asked : Option Command) → ByCommand asked old new result → IsSome asked
+      by None h = absurd (other (ap (λ (r : Result Report Refusal). report_of r) h.1))
+      by (Some asked) h = refl
+
+  -- an answer, or that memory ran out for its lines, is told
+  runs : (result : Result Report Refusal) (before after : SinkView) (status : ℕ) → GoesOn old new → (old.inputs.faults < new.inputs.faults → IsFault result) → Answers command old new result
+      → TellsOrNoMemory (report_of result) before after status → SinkGoesOn before after → Runs command old new before after status
+  runs result before after status goes_on rises answers (inl tells) sink = told result before after status goes_on rises answers tells sink
+  runs result before after status goes_on rises answers (inr tells) sink =
+      told (Err refusals.NoMemory) before after status goes_on (λ r. inr refl) (inl (is_asked result answers tells.0, refl)) tells.1 sink
+
+pub runs_carried : (command : Option Command) (old new : OutsideView) (result : Result Report Refusal) (before after : SinkView) (status : ℕ) → Carries command old new result → TellsOrNoMemory (report_of result) before after status
+    → SinkGoesOn before after → Runs command old new before after status
+runs_carried command old new result before after status (inl h) tells sink =
+    runs command old new result before after status (stays old new h.2) (λ rises. as_fault result _ h.1 (inr refl)) (inl (h.0, h.1)) tells sink
+runs_carried command old new result before after status (inr by) tells sink =
+    runs command old new result before after status (command_on command old new result by) (command_rises command old new result by) (inr by) tells sink
+
+pub judged : (verb : Verb) (name : List ℕ) (old new : OutsideView) (result : Result Report Refusal) → OnInput (VerbSays verb) name old new result → Carries (Some (command_with verb name)) old new result
+judged verbs.Audit name old new result h = inr h
+judged verbs.Drill name old new result h = inr h
+judged verbs.Hash name old new result h = inr h
