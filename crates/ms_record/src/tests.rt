@@ -1,8 +1,8 @@
 //! Texts and names whose values were known before.
 
 use crate::{
-    Ballot, Entry, Plan, PlanRow, Record, entry_name, links_on, parse_entry, parse_record,
-    write_entry, write_record,
+    Ballot, Entry, Plan, PlanRow, Record, ServiceSet, entry_name, links_on, parse_entry,
+    parse_record, write_entry, write_record,
 };
 use ms_base::{ClientId, Name, ServiceId};
 use std::alloc::Global;
@@ -40,7 +40,9 @@ const GREATEST: &str =
     "4c000102030405060708090a0b0c0d0e0f101112131415161718191a1b1c1d1e1f0000000ffffffffffffefdfcfbfaf9f8f7f6f5f4f3f2f1f0efeeedecebeae9e8e7e6e5e4e3e2e1e0fffffffe00000001000000018000000000000000000000020000000380000000000000000000000fffffffffffffffff";
 
 /// Texts that are no records.
-const NO_RECORDS: [&str; 10] = [
+const NO_RECORDS: [&str; 11] = [
+    // nothing
+    "",
     // a tag alone
     "50",
     // a byte missing
@@ -123,6 +125,27 @@ const NO_ROWS: [&str; 6] = [
     "000000000000000000004268",
 ];
 
+/// Texts in three pieces that are no entries.
+const NO_ENTRIES: [[&str; 3]; 7] = [
+    // nothing
+    ["", "", ""],
+    // a trailing byte
+    [PUSH, VERSION, "00"],
+    [PUSH_OF_CLIENT_16, VERSION, ""],
+    // a byte missing
+    [
+        PUSH,
+        "11111111111111111111111111111111111111111111111111111111111111",
+        "",
+    ],
+    // a push and more
+    [PUSH, VERSION, PLAN_ENTRY],
+    // no plan
+    [PLAN_ENTRY, VERSION, ""],
+    // another tag
+    ["50", VERSION, VERSION],
+];
+
 fn bytes(alloc: Global, parts: &[&str]) -> Result<Vec<u8>, &'static str> {
     let mut digits = String::new(alloc);
     for part in parts {
@@ -139,12 +162,20 @@ fn entry(alloc: Global, parts: &[&str]) -> Option<Entry> {
     parse_entry(&bytes(alloc, parts).ok()?)
 }
 
-fn is_record(alloc: Global, parts: &[&str]) -> Result<bool, &'static str> {
-    Ok(parse_record(&bytes(alloc, parts)?).is_some())
+/// Whether the bytes of these digits are no record.
+fn is_refused(alloc: Global, parts: &[&str]) -> bool {
+    match bytes(alloc, parts) {
+        Ok(text) => parse_record(&text).is_none(),
+        Err(_) => false,
+    }
 }
 
-fn is_entry(alloc: Global, parts: &[&str]) -> Result<bool, &'static str> {
-    Ok(parse_entry(&bytes(alloc, parts)?).is_some())
+/// Whether the bytes of these digits are no entry.
+fn is_no_entry(alloc: Global, parts: &[&str]) -> bool {
+    match bytes(alloc, parts) {
+        Ok(text) => parse_entry(&text).is_none(),
+        Err(_) => false,
+    }
 }
 
 fn name(digits: &[u8]) -> Option<Name> {
@@ -319,85 +350,124 @@ fn a_plan_shows_its_values(rt: HostRuntime) -> Result<(), Fail> {
 }
 
 #[test]
-fn a_trailing_byte_is_no_record(rt: HostRuntime) -> Result<(), Fail> {
-    assert!(rt; parse_record(b"").is_none());
+fn texts_that_are_no_records(rt: HostRuntime) {
     for text in NO_RECORDS {
-        assert!(rt; !is_record(rt.alloc(), &[text])?, "{text}");
+        assert!(rt; is_refused(rt.alloc(), &[text]));
     }
+}
+
+#[test]
+fn texts_that_are_no_accepts(rt: HostRuntime) {
     for head in NO_ACCEPTS {
-        assert!(rt; !is_record(rt.alloc(), &[head, PUSH, VERSION])?, "{head}");
+        assert!(rt; is_refused(rt.alloc(), &[head, PUSH, VERSION]));
     }
+}
+
+#[test]
+fn a_trailing_byte_is_no_record(rt: HostRuntime) {
     let accept = "41000000010000000100000001";
-    assert!(rt; !is_record(rt.alloc(), &[accept, PUSH, VERSION, "00"])?);
-    Ok(())
+    assert!(rt; is_refused(rt.alloc(), &[accept, PUSH, VERSION, "00"]));
 }
 
 #[test]
-fn a_trailing_byte_is_no_entry(rt: HostRuntime) -> Result<(), Fail> {
-    assert!(rt; parse_entry(b"").is_none());
-    for parts in [
-        [PUSH, VERSION, "00"],
-        [PUSH_OF_CLIENT_16, VERSION, ""],
-        [
-            PUSH,
-            "11111111111111111111111111111111111111111111111111111111111111",
-            "",
-        ],
-        [PUSH, VERSION, PLAN_ENTRY],
-        [PLAN_ENTRY, VERSION, ""],
-        ["50", VERSION, VERSION],
-    ] {
-        assert!(rt; !is_entry(rt.alloc(), &parts)?, "{parts:?}");
+fn a_trailing_byte_is_no_entry(rt: HostRuntime) {
+    for parts in NO_ENTRIES {
+        assert!(rt; is_no_entry(rt.alloc(), &parts));
     }
-    Ok(())
 }
 
 #[test]
-fn texts_that_break_a_plan_rule_are_no_entries(rt: HostRuntime) -> Result<(), Fail> {
+fn texts_that_break_a_plan_rule_are_no_entries(rt: HostRuntime) {
     for plan in NO_PLANS {
-        let parts = [PLAN_ENTRY, VERSION, plan, ROWS];
-        assert!(rt; !is_entry(rt.alloc(), &parts)?, "{plan}");
+        assert!(rt; is_no_entry(rt.alloc(), &[PLAN_ENTRY, VERSION, plan, ROWS]));
     }
+}
+
+#[test]
+fn texts_that_break_a_rule_of_rows_are_no_entries(rt: HostRuntime) {
     for rows in NO_ROWS {
-        let parts = [PLAN_ENTRY, VERSION, SMALL_PLAN, rows];
-        assert!(rt; !is_entry(rt.alloc(), &parts)?, "{rows}");
+        assert!(rt; is_no_entry(rt.alloc(), &[PLAN_ENTRY, VERSION, SMALL_PLAN, rows]));
     }
-    Ok(())
+}
+
+/// Values that break a plan rule with two rows: generation, format, replicas and unit.
+const NO_VALUES: [(u32, u32, u32, u64); 9] = [
+    (0, 1, 1, 1000),
+    (4_294_967_295, 1, 1, 1000),
+    (1, 0, 1, 1000),
+    (1, 3, 1, 1000),
+    (1, 1, 0, 1000),
+    (1, 1, 3, 1000),
+    (1, 1, 1, 0),
+    (1, 1, 1, 1001),
+    (1, 1, 1, 999),
+];
+
+/// Whether these are a plan's values.
+fn is_plan(values: (u32, u32, u32, u64), rows: &[PlanRow]) -> bool {
+    let (generation, format, replicas, unit) = values;
+    Plan::new(generation, format, replicas, unit, rows).is_some()
+}
+
+/// Whether the rows are a plan's with unit 1,000.
+fn are_rows(rows: &[PlanRow]) -> bool {
+    is_plan((1, 1, 1, 1000), rows)
 }
 
 #[test]
 fn plan_rules(rt: HostRuntime) {
-    let one = [row(0, 1000)];
-    let two = [row(2, 16_999), row(15, 1000)];
-    assert!(rt; Plan::new(1, 1, 1, 1000, &one).is_some());
-    assert!(rt; Plan::new(4_294_967_294, 1, 2, 1000, &two).is_some());
-    let mut sixteen = [row(0, 16_999); 16];
-    for (service, row) in sixteen.iter_mut().enumerate() {
-        row.service = ServiceId(service as u32);
+    for values in NO_VALUES {
+        assert!(rt; !is_plan(values, &[row(2, 16_999), row(15, 1000)]));
     }
-    assert!(rt; Plan::new(1, 1, 16, 1000, &sixteen).is_some());
-    for (generation, format, replicas, unit) in [
-        (0, 1, 1, 1000),
-        (4_294_967_295, 1, 1, 1000),
-        (1, 0, 1, 1000),
-        (1, 3, 1, 1000),
-        (1, 1, 0, 1000),
-        (1, 1, 3, 1000),
-        (1, 1, 1, 0),
-        (1, 1, 1, 1001),
-        (1, 1, 1, 999),
-    ] {
-        assert!(rt;
-            Plan::new(generation, format, replicas, unit, &two).is_none(),
-            "{generation} {format} {replicas} {unit}"
-        );
-    }
-    assert!(rt; Plan::new(1, 1, 1, 1000, &[]).is_none());
-    assert!(rt; Plan::new(1, 1, 1, 1000, &[row(0, 1000); 17]).is_none());
-    assert!(rt; Plan::new(1, 1, 1, 1000, &[row(0, 1000), row(0, 1000)]).is_none());
-    assert!(rt; Plan::new(1, 1, 1, 1000, &[row(1, 1000), row(0, 1000)]).is_none());
-    assert!(rt; Plan::new(1, 1, 1, 1000, &[row(16, 1000)]).is_none());
-    assert!(rt; Plan::new(1, 1, 1, 1000, &[row(0, 17_000)]).is_none());
+}
+
+#[test]
+fn plans_of_greatest_values(rt: HostRuntime) {
+    assert!(rt;
+        is_plan(
+            (4_294_967_294, 2, 2, 1000),
+            &[row(2, 16_999), row(15, 1000)]
+        )
+    );
+}
+
+#[test]
+fn plan_rules_of_rows(rt: HostRuntime) {
+    assert!(rt; are_rows(&[row(0, 1000)]));
+    assert!(rt; !are_rows(&[]));
+    assert!(rt; !are_rows(&[row(0, 1000); 17]));
+    assert!(rt; !are_rows(&[row(0, 1000), row(0, 1000)]));
+    assert!(rt; !are_rows(&[row(1, 1000), row(0, 1000)]));
+    assert!(rt; !are_rows(&[row(16, 1000)]));
+    assert!(rt; !are_rows(&[row(0, 17_000)]));
+}
+
+/// Whether the set is of these services.
+fn is_set(set: &ServiceSet, services: &[ServiceId]) -> bool {
+    set.as_slice() == services
+}
+
+#[test]
+fn the_services_of_a_plan_vote(rt: HostRuntime) -> Result<(), Fail> {
+    let plan = Plan::new(1, 1, 1, 1, &[row(3, 1), row(15, 1)]).ok_or("a plan")?;
+    let set = ServiceSet::of_plan(&plan);
+    assert!(rt; is_set(&set, &[ServiceId(3), ServiceId(15)]));
+    assert!(rt; set.has(ServiceId(15)));
+    assert!(rt; !set.has(ServiceId(0)));
+    Ok(())
+}
+
+#[test]
+fn a_first_plan_is_over_all_services(rt: HostRuntime) {
+    let plan = Plan::even(2, 1);
+    assert_eq!(rt; plan.rows(), [row(0, 1), row(1, 1)].as_slice());
+}
+
+#[test]
+fn the_first_services_are_a_set(rt: HostRuntime) {
+    let set = ServiceSet::all(2);
+    assert!(rt; is_set(&set, &[ServiceId(0), ServiceId(1)]));
+    assert_eq!(rt; set.len(), 2);
 }
 
 /// The generation and the format in force, how many services there are, and whether the plan of generation 2 and
