@@ -3,6 +3,7 @@ use Rattle.std.proofs.Common.{◌≡◌, ℕ, zero, suc, Bool, true, false, cond
 use Rattle.std.proofs.lemmas.Bool.Decides.{nat_tests}
 use Rattle.std.specs.Prelude.{nat_lt}
 use Rattle.std.proofs.lemmas.List.Elements.{All-push, All-filter, filter_passes}
+use Rattle.ms_base.specs.declared.limits.TheConstants.{OBJECT_BYTES}
 use Rattle.ms_fault.specs.Changes.{size_of}
 use Rattle.ms_fault.specs.Late.{IsDue, waiting}
 use Rattle.ms_fault.specs.declared.late.LateChange.{LateChange}
@@ -22,7 +23,7 @@ pub all_due : (old new : LinkView) (late : List LateChange) → Stays old new �
 all_due old new late stays all = λ k d lt. due_stays old new _ stays (all k d lt)
 
 -- a change that was kept with a note may be done
-pub kept_due : (link : LinkView) (pass note : Known Item) (event : LogEvent) (before : ℕ) → note ≡ record pass { word = None } → pass.board ≡ link.board → size_of event ≤ 33554432
+pub kept_due : (link : LinkView) (pass note : Known Item) (event : LogEvent) (before : ℕ) → note ≡ record pass { word = None } → pass.board ≡ link.board → size_of event ≤ OBJECT_BYTES
     → MayFollow IsClosed link.board.words pass.lists link.service (Log event) → IsDue link (record { note = note; event = event; before = before })
 kept_due link pass note event before is board short follows = record {
   board = ap (λ (k : Known Item). k.board) is ∙ board;

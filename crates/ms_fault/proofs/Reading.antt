@@ -1,12 +1,13 @@
 -- What a reading call of the link inside says of the link with faults.
-use Rattle.std.proofs.Common.{◌≡◌, ℕ, zero, suc, ◌≤◌, ◌&&◌, Bool, true, false, List, [], ◌∷◌, Option, Some, None, Result, Ok, Err, refl, sym, ap, ◌∙◌, subst, slice_index_or}
+use Rattle.std.proofs.Common.{◌≡◌, ℕ, zero, suc, ◌&&◌, Bool, true, false, List, [], ◌∷◌, Option, Some, None, Result, Ok, Err, refl, sym, ap, ◌∙◌, subst, slice_index_or}
 use Rattle.std.specs.List.{list_all}
 use Rattle.ms_base.specs.declared.names.Name.{Name}
-use Rattle.ms_fault.proofs.Inside.{later_link, rose_before, stale_before, both_first, rose_is, stale_inside}
+use Rattle.ms_fault.proofs.Inside.{both_first, passes_out, counts_failed}
 use Rattle.ms_fault.specs.declared.fault.Fault.{Fault}
 use Rattle.ms_fault.specs.declared.fault.Fault.TheVariants as faults
 use Rattle.ms_fault.specs.Faults.{FaultView, link_of, due, shows_kept, faults_after, HasBy, GetsBy}
 use Rattle.ms_ken.specs.Known.{Known}
+use Rattle.ms_link.specs.Composing.{has_on, gets_on, lists_out, has_out, gets_out}
 use Rattle.ms_link.specs.declared.fault.LinkError.{LinkError}
 use Rattle.ms_link.specs.declared.fault.LinkError.TheVariants as errors
 use Rattle.ms_link.specs.Links.{LinkView, Stays, Lists, Has, Gets}
@@ -27,67 +28,18 @@ due_shows f objects =
     let all = both_second f.inner.objects (list_all shows_kept f.script && shows_kept f.rest) objects in
     at_shows f.script f.rest f.at (both_first (list_all shows_kept f.script) (shows_kept f.rest) all) (both_second (list_all shows_kept f.script) (shows_kept f.rest) all)
 
--- ---- the answers of the link inside, seen from an earlier moment
-
-lists_before : (link after : LinkView) (faults : ℕ) (known : Known Item) (list from : ℕ) (r : Result (List (List ℕ)) LinkError) → link.faults ≤ faults → Lists (later_link link faults) after known list from r → Lists link after known list from r
-unfolding later_link
-lists_before link after faults known list from (Ok texts) le h = λ lists. h lists
-lists_before link after faults known list from (Err errors.Failed) le h = rose_before link.faults faults after.faults le h
-lists_before link after faults known list from (Err (errors.Stale floor)) le h = h
-lists_before link after faults known list from (Err errors.NoMemory) le h = tt
-
-pub lists_later : (link later after : LinkView) (known : Known Item) (list from : ℕ) (r : Result (List (List ℕ)) LinkError) → Stays link later → Lists later after known list from r → Lists link after known list from r
-unfolding later_link
-lists_later link later after known list from r stays h = lists_before link after later.faults known list from r stays.later (subst (λ (l : LinkView). Lists l after known list from r) stays.same h)
-
-has_before : (link after : LinkView) (faults : ℕ) (known : Known Item) (generation : ℕ) (name : Name) (r : Result Bool LinkError) → link.faults ≤ faults → Has (later_link link faults) after known generation name r → Has link after known generation name r
-unfolding later_link
-has_before link after faults known generation name (Ok true) le h = λ lists. h lists
-has_before link after faults known generation name (Ok false) le h = λ lists objects. h lists objects
-has_before link after faults known generation name (Err errors.Failed) le h = rose_before link.faults faults after.faults le h
-has_before link after faults known generation name (Err (errors.Stale floor)) le h = stale_before link faults known generation floor h
-has_before link after faults known generation name (Err errors.NoMemory) le h = tt
-
-pub has_later : (link later after : LinkView) (known : Known Item) (generation : ℕ) (name : Name) (r : Result Bool LinkError) → Stays link later → Has later after known generation name r → Has link after known generation name r
-unfolding later_link
-has_later link later after known generation name r stays h = has_before link after later.faults known generation name r stays.later (subst (λ (l : LinkView). Has l after known generation name r) stays.same h)
-
-gets_before : (link after : LinkView) (faults : ℕ) (known : Known Item) (generation : ℕ) (name : Name) (r : Result (Option (List ℕ)) LinkError) → link.faults ≤ faults → Gets (later_link link faults) after known generation name r
-    → Gets link after known generation name r
-unfolding later_link
-gets_before link after faults known generation name (Ok None) le h = λ lists objects. h lists objects
-gets_before link after faults known generation name (Ok (Some text)) le h = λ lists objects. h lists objects
-gets_before link after faults known generation name (Err errors.Failed) le h = rose_before link.faults faults after.faults le h
-gets_before link after faults known generation name (Err (errors.Stale floor)) le h = stale_before link faults known generation floor h
-gets_before link after faults known generation name (Err errors.NoMemory) le h = tt
-
-pub gets_later : (link later after : LinkView) (known : Known Item) (generation : ℕ) (name : Name) (r : Result (Option (List ℕ)) LinkError) → Stays link later → Gets later after known generation name r → Gets link after known generation name r
-unfolding later_link
-gets_later link later after known generation name r stays h = gets_before link after later.faults known generation name r stays.later (subst (λ (l : LinkView). Gets l after known generation name r) stays.same h)
-
 -- ---- the answers of the link inside, as the link's with faults
 
 pub lists_inside : (old new : FaultView) (known : Known Item) (list from : ℕ) (r : Result (List (List ℕ)) LinkError) → new.faults ≡ faults_after old.faults r → Lists old.inner new.inner known list from r → Lists (link_of old) (link_of new) known list from r
-lists_inside old new known list from (Ok texts) count h = λ lists. h lists
-lists_inside old new known list from (Err errors.Failed) count h = rose_is old.faults new.faults count
-lists_inside old new known list from (Err (errors.Stale floor)) count h = h
-lists_inside old new known list from (Err errors.NoMemory) count h = tt
+lists_inside old new known list from r count h = lists_out old.inner new.inner (link_of old) (link_of new) known list from r (passes_out old) (counts_failed old new r count) h
 
 pub has_inside : (old new : FaultView) (known : Known Item) (generation : ℕ) (name : Name) (r : Result Bool LinkError) → new.faults ≡ faults_after old.faults r → Has old.inner new.inner known generation name r
     → Has (link_of old) (link_of new) known generation name r
-has_inside old new known generation name (Ok true) count h = λ lists. h lists
-has_inside old new known generation name (Ok false) count h = λ lists objects. h lists (both_first old.inner.objects _ objects)
-has_inside old new known generation name (Err errors.Failed) count h = rose_is old.faults new.faults count
-has_inside old new known generation name (Err (errors.Stale floor)) count h = stale_inside old known generation floor h
-has_inside old new known generation name (Err errors.NoMemory) count h = tt
+has_inside old new known generation name r count h = has_out old.inner new.inner (link_of old) (link_of new) known generation name r (passes_out old) (counts_failed old new r count) h
 
 pub gets_inside : (old new : FaultView) (known : Known Item) (generation : ℕ) (name : Name) (r : Result (Option (List ℕ)) LinkError) → new.faults ≡ faults_after old.faults r → Gets old.inner new.inner known generation name r
     → Gets (link_of old) (link_of new) known generation name r
-gets_inside old new known generation name (Ok None) count h = λ lists objects. h lists (both_first old.inner.objects _ objects)
-gets_inside old new known generation name (Ok (Some text)) count h = λ lists objects. h lists (both_first old.inner.objects _ objects)
-gets_inside old new known generation name (Err errors.Failed) count h = rose_is old.faults new.faults count
-gets_inside old new known generation name (Err (errors.Stale floor)) count h = stale_inside old known generation floor h
-gets_inside old new known generation name (Err errors.NoMemory) count h = tt
+gets_inside old new known generation name r count h = gets_out old.inner new.inner (link_of old) (link_of new) known generation name r (passes_out old) (counts_failed old new r count) h
 
 -- ---- a call that was passed on and counted
 
@@ -97,7 +49,7 @@ counted_on {A} inside met old now r other count one two same = count ∙ ap (λ 
 pub has_asked : (old met new : FaultView) (inside asked : LinkView) (known : Known Item) (generation : ℕ) (name : Name) (r other : Result Bool LinkError) → Stays old.inner met.inner → inside ≡ met.inner → new.inner ≡ asked → other ≡ r
     → Has inside asked known generation name r → Has old.inner new.inner known generation name other
 has_asked old met new inside asked known generation name r other stays before after same h =
-    has_later old.inner met.inner new.inner known generation name other stays
+    has_on old.inner met.inner new.inner known generation name other stays
     (subst (λ (l : LinkView). Has l new.inner known generation name other) before
     (subst (λ (l : LinkView). Has inside l known generation name other) (sym after) (subst (λ (x : Result Bool LinkError). Has inside asked known generation name x) (sym same) h)))
 
@@ -122,7 +74,7 @@ has_passed fault old new k0 k1 generation name r is lose act gone h = subst (λ 
 pub gets_asked : (old met new : FaultView) (inside asked : LinkView) (known : Known Item) (generation : ℕ) (name : Name) (r other : Result (Option (List ℕ)) LinkError) → Stays old.inner met.inner → inside ≡ met.inner → new.inner ≡ asked → other ≡ r
     → Gets inside asked known generation name r → Gets old.inner new.inner known generation name other
 gets_asked old met new inside asked known generation name r other stays before after same h =
-    gets_later old.inner met.inner new.inner known generation name other stays
+    gets_on old.inner met.inner new.inner known generation name other stays
     (subst (λ (l : LinkView). Gets l new.inner known generation name other) before
     (subst (λ (l : LinkView). Gets inside l known generation name other) (sym after) (subst (λ (x : Result (Option (List ℕ)) LinkError). Gets inside asked known generation name x) (sym same) h)))
 

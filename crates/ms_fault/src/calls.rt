@@ -3,9 +3,7 @@
 ghost use Rattle.std.specs.Prelude.{◌≡◌, ◌≤◌, length};
 ghost use Rattle.ms_core.specs.Views.{IsClosed};
 ghost use Rattle.ms_fault.specs.Faults.{due, link_of, still_late, faults_after, ChangesBy, LateBy, ListsBy, HasBy, GetsBy, IsNext};
-ghost use Rattle.ms_ken.specs.Lists.{MayFollow};
-ghost use Rattle.ms_link.specs.Links.{IsOnBoard, Stays, Learns, Tells, Puts, Lists, Has, Gets};
-ghost use Rattle.ms_record.specs.declared.item.Item.TheVariants.{Log};
+ghost use Rattle.ms_link.specs.Links.{IsOnBoard, MayAdd, Stays, Learns, Tells, Puts, Lists, Has, Gets};
 ghost use Rattle.ms_record.specs.declared.log.LogEvent.TheVariants.{Rec, Put as Stored, Drop as Dropped};
 
 use crate::altering::altered;
@@ -40,7 +38,7 @@ impl<L: Link<FoldClosed>> Link<FoldClosed> for FaultLink<L> {
     ) -> Result<(), LinkError>
         requires board { IsOnBoard (link_of self.old) board.now pass.old }
         requires short { length text.now ≤ OBJECT_BYTES }
-        requires closed { MayFollow IsClosed (link_of self.old).board.words pass.old.lists (link_of self.old).service (Log (Rec list text.now)) }
+        requires closed { MayAdd IsClosed (link_of self.old) pass.old (Rec list text.now) }
         ensures tells { Tells (link_of self.old) (link_of self.new) pass.old pass.new (Rec list text.now) result }
         ensures link { Stays (link_of self.old) (link_of self.new) }
         ensures pass { Learns pass.old pass.new }
@@ -93,7 +91,7 @@ impl<L: Link<FoldClosed>> Link<FoldClosed> for FaultLink<L> {
     ) -> Result<(), LinkError>
         requires board { IsOnBoard (link_of self.old) board.now pass.old }
         requires short { length text.now ≤ OBJECT_BYTES }
-        requires closed { MayFollow IsClosed (link_of self.old).board.words pass.old.lists (link_of self.old).service (Log (Stored generation name.now text.now)) }
+        requires closed { MayAdd IsClosed (link_of self.old) pass.old (Stored generation name.now text.now) }
         ensures puts { Puts (link_of self.old) (link_of self.new) pass.old pass.new generation (Stored generation name.now text.now) result }
         ensures link { Stays (link_of self.old) (link_of self.new) }
         ensures pass { Learns pass.old pass.new }
@@ -188,7 +186,7 @@ impl<L: Link<FoldClosed>> Link<FoldClosed> for FaultLink<L> {
         generation: u32,
     ) -> Result<(), LinkError>
         requires board { IsOnBoard (link_of self.old) board.now pass.old }
-        requires closed { MayFollow IsClosed (link_of self.old).board.words pass.old.lists (link_of self.old).service (Log (Dropped generation)) }
+        requires closed { MayAdd IsClosed (link_of self.old) pass.old (Dropped generation) }
         ensures tells { Tells (link_of self.old) (link_of self.new) pass.old pass.new (Dropped generation) result }
         ensures link { Stays (link_of self.old) (link_of self.new) }
         ensures pass { Learns pass.old pass.new }

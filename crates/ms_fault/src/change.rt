@@ -2,10 +2,8 @@
 
 ghost use Rattle.std.specs.Prelude.{◌≡◌, ◌≤◌, IfOk, length};
 ghost use Rattle.ms_fault.specs.Changes.{event_of, size_of, Changes};
-ghost use Rattle.ms_ken.specs.Lists.{MayFollow};
-ghost use Rattle.ms_link.specs.Links.{IsOnBoard, Stays, Learns};
+ghost use Rattle.ms_link.specs.Links.{IsOnBoard, MayAdd, Stays, Learns};
 ghost use Rattle.ms_core.specs.Views.{IsClosed};
-ghost use Rattle.ms_record.specs.declared.item.Item.TheVariants.{Log};
 
 use ms_base::limits::OBJECT_BYTES;
 use ms_base::{Bytes, Name, NoMemory};
@@ -85,7 +83,7 @@ pub(crate) fn send<L: Link<FoldClosed>>(
 ) -> Result<(), LinkError>
     requires board { IsOnBoard (L.sees link.old) board.now pass.old }
     requires short { size_of (event_of change) ≤ OBJECT_BYTES }
-    requires closed { MayFollow IsClosed (L.sees link.old).board.words pass.old.lists (L.sees link.old).service (Log (event_of change)) }
+    requires closed { MayAdd IsClosed (L.sees link.old) pass.old (event_of change) }
     ensures changes { Changes (L.sees link.old) (L.sees link.new) pass.old pass.new (event_of change.entry) result }
     ensures link { Stays (L.sees link.old) (L.sees link.new) }
     ensures pass { Learns pass.old pass.new }

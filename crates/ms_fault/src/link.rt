@@ -6,10 +6,8 @@ ghost use Rattle.ms_core.specs.Views.{IsClosed};
 ghost use Rattle.ms_fault.specs.Changes.{event_of, size_of, Changes};
 ghost use Rattle.ms_fault.specs.Faults.{due, link_of, still_late, faults_after, IsActed, IsCalled, IsIdle, IsNext, ChangesBy, LateBy};
 ghost use Rattle.ms_fault.specs.Late.{sent_late};
-ghost use Rattle.ms_ken.specs.Lists.{MayFollow};
 ghost use Rattle.ms_link.specs.declared.fault.LinkError.TheVariants as errors;
-ghost use Rattle.ms_link.specs.Links.{IsOnBoard, Learns};
-ghost use Rattle.ms_record.specs.declared.item.Item.TheVariants.{Log};
+ghost use Rattle.ms_link.specs.Links.{IsOnBoard, MayAdd, Learns};
 
 use crate::change::{Change, kept, send};
 use crate::fault::Fault;
@@ -110,7 +108,7 @@ impl<L: Link<FoldClosed>> FaultLink<L> {
     fn act(&mut self, alloc: Global, board: &Common, pass: &mut Know, change: Change)
         requires board { IsOnBoard self.old.inner board.now pass.old }
         requires short { size_of (event_of change) ≤ OBJECT_BYTES }
-        requires closed { MayFollow IsClosed self.old.inner.board.words pass.old.lists self.old.inner.service (Log (event_of change)) }
+        requires closed { MayAdd IsClosed self.old.inner pass.old (event_of change) }
         ensures acted { IsActed self.old self.new }
         ensures pass { Learns pass.old pass.new }
     {
@@ -127,7 +125,7 @@ impl<L: Link<FoldClosed>> FaultLink<L> {
     ) -> Result<(), LinkError>
         requires board { IsOnBoard self.old.inner board.now pass.old }
         requires short { size_of (event_of change) ≤ OBJECT_BYTES }
-        requires closed { MayFollow IsClosed self.old.inner.board.words pass.old.lists self.old.inner.service (Log (event_of change)) }
+        requires closed { MayAdd IsClosed self.old.inner pass.old (event_of change) }
         ensures changes { Changes self.old.inner self.new.inner pass.old pass.new (event_of change.entry) result }
         ensures counts { self.new.faults ≡ faults_after self.old.faults result }
         ensures call { IsCalled self.old self.new }
@@ -148,7 +146,7 @@ impl<L: Link<FoldClosed>> FaultLink<L> {
     ) -> LinkError
         requires board { IsOnBoard self.old.inner board.now pass.old }
         requires short { size_of (event_of change) ≤ OBJECT_BYTES }
-        requires closed { MayFollow IsClosed self.old.inner.board.words pass.old.lists self.old.inner.service (Log (event_of change)) }
+        requires closed { MayAdd IsClosed self.old.inner pass.old (event_of change) }
         ensures fault { (result ≡ errors.Failed) ⊎ (result ≡ errors.NoMemory) }
         ensures waits { result ≡ errors.Failed → self.new ≡ record self.old { late = self.old.late ++ sent_late self.old.calls pass.old (event_of change.entry) after ∷ []; faults = one_more self.old.faults } }
         ensures lost { result ≡ errors.NoMemory → self.new ≡ self.old }
@@ -173,7 +171,7 @@ impl<L: Link<FoldClosed>> FaultLink<L> {
     ) -> Result<(), NoMemory>
         requires board { IsOnBoard self.old.inner board.now pass.old }
         requires short { size_of (event_of change) ≤ OBJECT_BYTES }
-        requires closed { MayFollow IsClosed self.old.inner.board.words pass.old.lists self.old.inner.service (Log (event_of change)) }
+        requires closed { MayAdd IsClosed self.old.inner pass.old (event_of change) }
         ensures waits { OnOk result (self.new ≡ record self.old { late = self.old.late ++ sent_late self.old.calls pass.old (event_of change.entry) after ∷ [] }) }
         ensures lost { OnErr result (self.new ≡ self.old) }
         ensures pass { pass.new ≡ pass.old }
@@ -197,7 +195,7 @@ impl<L: Link<FoldClosed>> FaultLink<L> {
     ) -> Result<(), LinkError>
         requires board { IsOnBoard (link_of self.old) board.now pass.old }
         requires short { size_of (event_of change) ≤ OBJECT_BYTES }
-        requires closed { MayFollow IsClosed (link_of self.old).board.words pass.old.lists (link_of self.old).service (Log (event_of change)) }
+        requires closed { MayAdd IsClosed (link_of self.old) pass.old (event_of change) }
         ensures script { ChangesBy (due self.old) self.old self.new pass.old pass.new (event_of change.entry) result }
         ensures counts { self.new.faults ≡ faults_after self.old.faults result }
         ensures later { self.old.faults ≤ self.new.faults }

@@ -10,7 +10,7 @@ use Rattle.ms_ken.specs.Known.{TableId, Known}
 use Rattle.ms_ken.specs.Lists.{list_at, Begins}
 use Rattle.ms_ken.specs.Prefixes.{prefix_length, prefix_get, get_splits}
 use Rattle.ms_ken.specs.Rows.{begins_self, begins_trans, may_follow_later}
-use Rattle.ms_link.specs.Links.{LinkView, IsOnBoard, MayAsk, Stays, Learns, IsAdded, IsAbove, IsStale, IsAbsent, IsKept, log_known, Tells, Puts, Lists, Has, Gets, CountsFailed, PassesOut, Leads, AllLead}
+use Rattle.ms_link.specs.Links.{LinkView, IsOnBoard, MayAdd, Stays, Learns, IsAdded, IsAbove, IsStale, IsAbsent, IsKept, log_known, Tells, Puts, Lists, Has, Gets, CountsFailed, PassesOut, Leads, AllLead}
 use Rattle.ms_link.specs.declared.fault.LinkError.{LinkError}
 use Rattle.ms_link.specs.declared.fault.LinkError.TheVariants as errors
 use Rattle.ms_record.specs.declared.item.Item.{Item}
@@ -68,9 +68,9 @@ on_board_on old new board before after stays learns h =
     let same : new.board ≡ old.board = ap (λ (l : LinkView). l.board) stays.same in
     record { call = h.call ∙ sym same; pass = learns.board ∙ (h.pass ∙ sym same) }
 
-pub follows_on : (closed : List (List Item) → Type 0) (old new : LinkView) (before after : Known Item) (event : LogEvent) → Stays old new → Begins before.lists after.lists → MayAsk closed old before event → MayAsk closed new after event
+pub follows_on : (closed : List (List Item) → Type 0) (old new : LinkView) (before after : Known Item) (event : LogEvent) → Stays old new → Begins before.lists after.lists → MayAdd closed old before event → MayAdd closed new after event
 follows_on closed old new before after event stays begins h =
-    subst (λ (link : LinkView). MayAsk closed link after event) (sym stays.same)
+    subst (λ (link : LinkView). MayAdd closed link after event) (sym stays.same)
     (may_follow_later closed old.board.words before.lists after.lists old.service (Log event) begins h)
 
 -- ---- a link inside another

@@ -34,9 +34,9 @@ pub record IsOnBoard (link : LinkView) (board : TableId) (known : Known Item) : 
   pub call : board ≡ link.board
   pub pass : known.board ≡ link.board
 
--- whoever knows this may ask for the event: whatever else is known by then, it may stand at the end of the service's list
-abbrev pub MayAsk : (List (List Item) → Type 0) → LinkView → Known Item → LogEvent → Type 0
-MayAsk closed link pass event = MayFollow closed link.board.words pass.lists link.service (Log event)
+-- whoever knows this may have the event added: whatever else is known by then, it may stand at the end of the service's list
+abbrev pub MayAdd : (List (List Item) → Type 0) → LinkView → Known Item → LogEvent → Type 0
+MayAdd closed link pass event = MayFollow closed link.board.words pass.lists link.service (Log event)
 
 -- all but the count of faults stays, and the count does not fall
 pub record Stays (old new : LinkView) : Type 0 where

@@ -2,7 +2,7 @@
 
 ghost use Rattle.std.specs.Prelude.{◌≡◌, ◌≤◌, ◌<◌, ◌↔◌, ℕ, length, true, Contains, Err, IfOk, IsTrue};
 ghost use Rattle.ms_base.specs.Counts.{Rose};
-ghost use Rattle.ms_link.specs.Links.{IsOnBoard, MayAsk, Stays, Learns};
+ghost use Rattle.ms_link.specs.Links.{IsOnBoard, MayAdd, Stays, Learns};
 ghost use Rattle.ms_link.specs.declared.fault.LinkError.TheVariants as errors;
 ghost use Rattle.ms_record.specs.declared.log.LogEvent.TheVariants.{Rec, Put as Stored, Drop as Dropped};
 
@@ -36,7 +36,7 @@ pub fn append_then_list<C: Closed<Event = Item>, L: Link<C>>(
     requires board { IsOnBoard (L.sees link.old) board.now pass.old }
     requires lists { (L.sees link.old).lists ≡ true }
     requires short { length text.now ≤ OBJECT_BYTES }
-    requires closed { MayAsk C.closed (L.sees link.old) pass.old (Rec list text.now) }
+    requires closed { MayAdd C.closed (L.sees link.old) pass.old (Rec list text.now) }
     ensures there { IfOk result IsTrue }
     ensures link { Stays (L.sees link.old) (L.sees link.new) }
     ensures pass { Learns pass.old pass.new }
@@ -60,7 +60,7 @@ pub fn put_then_has<C: Closed<Event = Item>, L: Link<C>>(
     requires lists { (L.sees link.old).lists ≡ true }
     requires objects { (L.sees link.old).objects ≡ true }
     requires short { length text.now ≤ OBJECT_BYTES }
-    requires closed { MayAsk C.closed (L.sees link.old) pass.old (Stored generation name.now text.now) }
+    requires closed { MayAdd C.closed (L.sees link.old) pass.old (Stored generation name.now text.now) }
     ensures there { IfOk result IsTrue }
     ensures link { Stays (L.sees link.old) (L.sees link.new) }
     ensures pass { Learns pass.old pass.new }
@@ -83,7 +83,7 @@ pub fn stale_then_put<C: Closed<Event = Item>, L: Link<C>>(
     requires lists { (L.sees link.old).lists ≡ true }
     requires objects { (L.sees link.old).objects ≡ true }
     requires short { length text.now ≤ OBJECT_BYTES }
-    requires closed { MayAsk C.closed (L.sees link.old) pass.old (Stored generation name.now text.now) }
+    requires closed { MayAdd C.closed (L.sees link.old) pass.old (Stored generation name.now text.now) }
     ensures refused { IfOk result IsTrue }
     ensures link { Stays (L.sees link.old) (L.sees link.new) }
     ensures pass { Learns pass.old pass.new }
@@ -116,7 +116,7 @@ pub fn drop_then_has<C: Closed<Event = Item>, L: Link<C>>(
     requires lists { (L.sees link.old).lists ≡ true }
     requires objects { (L.sees link.old).objects ≡ true }
     requires below { generation < floor }
-    requires closed { MayAsk C.closed (L.sees link.old) pass.old (Dropped floor) }
+    requires closed { MayAdd C.closed (L.sees link.old) pass.old (Dropped floor) }
     ensures refused { IfOk result IsTrue }
     ensures link { Stays (L.sees link.old) (L.sees link.new) }
     ensures pass { Learns pass.old pass.new }
@@ -158,7 +158,7 @@ pub fn append_counted<C: Closed<Event = Item>, L: Link<C>>(
 ) -> Result<(), LinkError>
     requires board { IsOnBoard (L.sees link.old) board.now pass.old }
     requires short { length text.now ≤ OBJECT_BYTES }
-    requires closed { MayAsk C.closed (L.sees link.old) pass.old (Rec list text.now) }
+    requires closed { MayAdd C.closed (L.sees link.old) pass.old (Rec list text.now) }
     ensures rose { result ≡ Err errors.Failed → Rose (L.sees link.old).faults (L.sees link.new).faults }
     ensures never { (floor : ℕ) → result ≡ Err (errors.Stale floor) → ⊥ }
     ensures link { Stays (L.sees link.old) (L.sees link.new) }

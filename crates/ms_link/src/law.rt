@@ -6,7 +6,7 @@ ghost use Rattle.ms_base.specs.Counts.{Rose};
 ghost use Rattle.ms_base.specs.declared.names.Name.{Name};
 ghost use Rattle.ms_ken.specs.Known.{TableId, Known};
 ghost use Rattle.ms_ken.specs.Lists.{Begins};
-ghost use Rattle.ms_link.specs.Links.{LinkView, IsOnBoard, MayAsk, Stays, Learns, IsAdded, log_known, Tells, Puts, Lists, Has, Gets, CountsFailed, PassesOut, Leads, AllLead};
+ghost use Rattle.ms_link.specs.Links.{LinkView, IsOnBoard, MayAdd, Stays, Learns, IsAdded, log_known, Tells, Puts, Lists, Has, Gets, CountsFailed, PassesOut, Leads, AllLead};
 ghost use Rattle.ms_link.specs.declared.fault.LinkError.{LinkError};
 ghost use Rattle.ms_record.specs.declared.log.ListId.{ListId};
 ghost use Rattle.ms_record.specs.declared.log.LogEvent.{LogEvent};
@@ -31,7 +31,7 @@ pub fn calls_compose()
 pub fn asks_stay<C: Closed<Event = Item>>()
     ensures on_board { (old new : LinkView) (board : TableId) (before after : Known Item) → Stays old new → Learns before after → IsOnBoard old board before → IsOnBoard new board after }
     ensures follows_on { (old new : LinkView) (before after : Known Item) (event : LogEvent) → Stays old new → Begins before.lists after.lists
-        → MayAsk C.closed old before event → MayAsk C.closed new after event }
+        → MayAdd C.closed old before event → MayAdd C.closed new after event }
 {}
 
 /// What a change left, for a caller that looked before it and for one that looks on.

@@ -1,7 +1,7 @@
 //! The trait of links.
 
 ghost use Rattle.std.specs.Prelude.{◌≡◌, ◌≤◌, length};
-ghost use Rattle.ms_link.specs.Links.{LinkView, IsOnBoard, MayAsk, Stays, Learns, Tells, Puts, Lists, Has, Gets};
+ghost use Rattle.ms_link.specs.Links.{LinkView, IsOnBoard, MayAdd, Stays, Learns, Tells, Puts, Lists, Has, Gets};
 ghost use Rattle.ms_record.specs.declared.log.LogEvent.TheVariants.{Rec, Put as Stored, Drop as Dropped};
 
 use crate::fault::LinkError;
@@ -45,7 +45,7 @@ pub trait Link<C: Closed<Event = Item>> {
     ) -> Result<(), LinkError>
         requires board { IsOnBoard (sees self.old) board.now pass.old }
         requires short { length text.now ≤ OBJECT_BYTES }
-        requires closed { MayAsk C.closed (sees self.old) pass.old (Rec list text.now) }
+        requires closed { MayAdd C.closed (sees self.old) pass.old (Rec list text.now) }
         ensures tells { Tells (sees self.old) (sees self.new) pass.old pass.new (Rec list text.now) result }
         ensures link { Stays (sees self.old) (sees self.new) }
         ensures pass { Learns pass.old pass.new };
@@ -78,7 +78,7 @@ pub trait Link<C: Closed<Event = Item>> {
     ) -> Result<(), LinkError>
         requires board { IsOnBoard (sees self.old) board.now pass.old }
         requires short { length text.now ≤ OBJECT_BYTES }
-        requires closed { MayAsk C.closed (sees self.old) pass.old (Stored generation name.now text.now) }
+        requires closed { MayAdd C.closed (sees self.old) pass.old (Stored generation name.now text.now) }
         ensures puts { Puts (sees self.old) (sees self.new) pass.old pass.new generation (Stored generation name.now text.now) result }
         ensures link { Stays (sees self.old) (sees self.new) }
         ensures pass { Learns pass.old pass.new };
@@ -122,7 +122,7 @@ pub trait Link<C: Closed<Event = Item>> {
         generation: u32,
     ) -> Result<(), LinkError>
         requires board { IsOnBoard (sees self.old) board.now pass.old }
-        requires closed { MayAsk C.closed (sees self.old) pass.old (Dropped generation) }
+        requires closed { MayAdd C.closed (sees self.old) pass.old (Dropped generation) }
         ensures tells { Tells (sees self.old) (sees self.new) pass.old pass.new (Dropped generation) result }
         ensures link { Stays (sees self.old) (sees self.new) }
         ensures pass { Learns pass.old pass.new };

@@ -5,6 +5,7 @@ use Rattle.std.proofs.lemmas.List.Elements.{Contains-append_left, Contains-appen
 use Rattle.std.specs.Prelude.{◌==◌, if◌then◌else◌, unwrap_or}
 use Rattle.ms_base.specs.declared.names.Name.{Name}
 use Rattle.ms_core.specs.Floors.{IsFloor}
+use Rattle.ms_link.specs.Composing.{texts_in-append}
 use Rattle.ms_memory.specs.Shelves.{IsFirstPut}
 use Rattle.ms_record.specs.declared.log.ListId.{ListId}
 use Rattle.ms_record.specs.declared.log.LogEvent.{LogEvent}
@@ -12,16 +13,6 @@ use Rattle.ms_record.specs.declared.log.LogEvent.TheVariants.{Rec, Put, Drop}
 use Rattle.ms_record.specs.Logs.{texts_in}
 
 -- ---- the texts of a list
-
-joined : (b : Bool) (text : List ℕ) (xs ys zs : List (List ℕ)) → zs ≡ xs ++ ys → (if b then text ∷ zs else zs) ≡ (if b then text ∷ xs else xs) ++ ys
-joined true text xs ys zs e = ap (λ (l : List (List ℕ)). text ∷ l) e
-joined false text xs ys zs e = e
-
-pub texts_in-append : (number : ℕ) (xs ys : List LogEvent) → texts_in number (xs ++ ys) ≡ texts_in number xs ++ texts_in number ys
-texts_in-append number [] ys = refl
-texts_in-append number (Rec list text ∷ xs) ys = joined (list.0 == number) text (texts_in number xs) (texts_in number ys) (texts_in number (xs ++ ys)) (texts_in-append number xs ys)
-texts_in-append number (Put generation name text ∷ xs) ys = texts_in-append number xs ys
-texts_in-append number (Drop floor ∷ xs) ys = texts_in-append number xs ys
 
 test_same : (n : ℕ) → (n == n) ≡ true
 test_same n = grind (arith, nat_tests)

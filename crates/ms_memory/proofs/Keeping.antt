@@ -4,7 +4,8 @@ use Rattle.std.specs.Prelude.{unwrap_or}
 use mathlib.Core.Logic.{dite}
 use native.Mathlib.Decide.{ℕ_discrete}
 use Rattle.ms_base.specs.declared.names.Name.{Name}
-use Rattle.ms_memory.proofs.Holding.{texts_in-append, texts_here, texts_else, first_stays, first_put, floor_stays, floor_kept, floor_raised}
+use Rattle.ms_link.specs.Composing.{texts_in-append}
+use Rattle.ms_memory.proofs.Holding.{texts_here, texts_else, first_stays, first_put, floor_stays, floor_kept, floor_raised}
 use Rattle.ms_memory.proofs.Storing.{which_spot}
 use Rattle.ms_memory.specs.Shelves.{Holds, IsFirstPut, texts_at, text_at}
 use Rattle.ms_memory.specs.declared.lists.Lists.{Lists}

@@ -3,4 +3,3 @@ mod Holding
 mod Keeping
 mod Serving
 mod Linking
-pub mod Following

@@ -8,7 +8,7 @@ use Rattle.ms_core.specs.Views.{log_in}
 use Rattle.ms_ken.specs.Known.{Known}
 use Rattle.ms_ken.specs.Lists.{list_at}
 use Rattle.ms_ken.specs.Prefixes.{get_last, prefix_length}
-use Rattle.ms_link.specs.Links.{LinkView, Learns, IsAdded, IsAbove, IsStale, Tells, Puts, Has, Gets, log_known}
+use Rattle.ms_link.specs.Links.{LinkView, IsAdded, IsAbove, IsStale, Tells, Puts, Has, Gets, log_known}
 use Rattle.ms_link.specs.declared.fault.LinkError.{LinkError}
 use Rattle.ms_link.specs.declared.fault.LinkError.TheVariants as errors
 use Rattle.ms_memory.proofs.Holding.{first_has}
@@ -85,18 +85,3 @@ gets_says link after new log generation name None is above h =
     λ _ _. record { above = subst (λ l. IsAbove l generation) (sym is) above; none = λ has. h (subst (λ l. HasPut l generation name) is has) }
 gets_says link after new log generation name (Some text) is above h =
     λ _ _. record { above = subst (λ l. IsAbove l generation) (sym is) above; put = subst (λ l. Contains l (Put generation name text)) (sym is) (first_has log generation name text h) }
-
-added_before : (link : LinkView) (old mid new : Known Item) (event : LogEvent) → Learns old mid → IsAdded link mid new event → IsAdded link old new event
-added_before link old mid new event learns h = record {
-  place = h.place;
-  behind = omega (arith, prefix_length (list_at old.lists link.service) (list_at mid.lists link.service) (learns.more link.service), h.behind);
-  stands = h.stands;
-}
-
--- what a put leaves, seen by a caller that looked before
-pub puts_before : (link after : LinkView) (old mid new : Known Item) (generation : ℕ) (event : LogEvent) (answer : Result Unit LinkError) → Learns old mid
-    → Puts link after mid new generation event answer → Puts link after old new generation event answer
-puts_before link after old mid new generation event (Ok u) learns h = (λ lists. added_before link old mid new event learns (h.0 lists), h.1)
-puts_before link after old mid new generation event (Err errors.Failed) learns h = h
-puts_before link after old mid new generation event (Err (errors.Stale floor)) learns h = h
-puts_before link after old mid new generation event (Err errors.NoMemory) learns h = tt

@@ -10,7 +10,7 @@ use Rattle.ms_ken.specs.Known.{TableId, Known}
 use Rattle.ms_ken.specs.Lists.{list_at, Begins, MayFollow, longer_lists, with_told}
 use Rattle.ms_ken.specs.Prefixes.{longer_of_prefix, prefix_length}
 use Rattle.ms_ken.specs.Rows.{begins_told, begins_trans, item_here, list_at-longer_lists}
-use Rattle.ms_link.specs.Links.{IsAbove, Learns}
+use Rattle.ms_link.specs.Links.{IsAbove}
 use Rattle.ms_memory.proofs.Holding.{first_has}
 use Rattle.ms_memory.specs.Served.{Agrees, IsTakenBy, LearnsEvent, served}
 use Rattle.ms_memory.specs.Shelves.{Holds, IsFirstPut, IsOpenTo}
@@ -91,19 +91,6 @@ learns_event service old one caller new lists event word own wide within begins 
       ap (λ l. list_at l service) (is ∙ ap (λ l. longer_lists l (with_told one.lists one.word (Log event))) met)
       ∙ learnt_here one.lists one.word service one.board.words (Log event) word wide within;
 }
-
--- what is learnt in two steps
-pub learns_then : (old mid new : Known Item) → Learns old mid → new.board ≡ mid.board → new.word ≡ mid.word → IfSome mid.word (λ k. list_at new.lists k ≡ list_at mid.lists k) → Begins mid.lists new.lists → Learns old new
-learns_then old mid new first board word own more = record {
-  board = board ∙ first.board;
-  word = word ∙ first.word;
-  own = both old.word mid.word first.word first.own own;
-  more = begins_trans old.lists mid.lists new.lists first.more more;
-}
-  where
-    both : (w v : Option ℕ) → v ≡ w → IfSome w (λ k. list_at mid.lists k ≡ list_at old.lists k) → IfSome v (λ k. list_at new.lists k ≡ list_at mid.lists k) → IfSome w (λ k. list_at new.lists k ≡ list_at old.lists k)
-    both None v e p q = tt
-    both (Some k) v e p q = owned (λ k. list_at new.lists k ≡ list_at mid.lists k) v k e q ∙ p
 
 -- ---- the floor and the generations
 

@@ -1,4 +1,2 @@
 pub mod Shelves
 pub mod Served
-pub mod Untold
-pub mod Told

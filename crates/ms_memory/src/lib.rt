@@ -14,5 +14,3 @@ pub use state::ServiceState;
 
 #[cfg(test)]
 mod tests;
-#[cfg(test)]
-mod told_tests;

@@ -1,7 +1,7 @@
 use Rattle.std.proofs.Common.{◌<◌, ◌≤◌, List, length, sym, ◌∙◌, subst, rules, arith}
 use Rattle.std.proofs.lemmas.Fn.{filter_same}
 use Rattle.std.specs.Prelude.{nat_lt}
-use Rattle.ms_fault.proofs.Inside.{stays_on}
+use Rattle.ms_link.specs.Composing.{stays_on}
 use Rattle.ms_fault.proofs.Lateness.{due_stays, waits_as, all_wait, waiting_due, set_else, those_kept}
 use Rattle.ms_fault.specs.declared.late.LateChange.{LateChange}
 use Rattle.ms_fault.specs.Late.{IsDue}

@@ -2,9 +2,9 @@ use Rattle.std.proofs.Common.{ℕ, List, true, refl, sym, subst}
 use Rattle.ms_core.specs.Views.{IsClosed, log_in}
 use Rattle.ms_ken.specs.Lists.{MayFollow}
 use Rattle.ms_ken.specs.Rows.{may_follow_later}
+use Rattle.ms_link.specs.Composing.{learns_on, puts_on, stays_self}
 use Rattle.ms_link.specs.Links.{LinkView, Puts}
-use Rattle.ms_memory.proofs.Linking.{put_puts, puts_before, stale_says}
-use Rattle.ms_memory.proofs.Serving.{learns_then}
+use Rattle.ms_memory.proofs.Linking.{put_puts, stale_says}
 use Rattle.ms_record.specs.declared.item.Item.TheVariants.{Log}
 use Rattle.ms_record.specs.declared.log.LogEvent.TheVariants.{Put}
 use Rattle.ms_memory.proofs.link.MemoryLinkLinkFoldClosed.put.Goals as goal
@@ -26,11 +26,9 @@ returns-clause-puts g c =
     let link : LinkView = record { board = g.J.Naming.board; service = c.args.self.now; faults = 0; lists = true; objects = true } in
     let name = c.args.name.now in
     let looked = c.floor.new.pass in
-    puts_before link link c.args.pass.now looked c.change.new.pass c.args.generation (Put c.args.generation name c.args.text.now) c.change.result c.floor.ensures.pass
+    puts_on link link link c.args.pass.now looked c.change.new.pass c.args.generation (Put c.args.generation name c.args.text.now) c.change.result (stays_self link) c.floor.ensures.pass
     (subst (λ (t : List ℕ). Puts link link looked c.change.new.pass c.args.generation (Put c.args.generation name t) c.change.result) c.in_ok-of.ensures
     (put_puts link link looked c.change.new.pass c.args.generation name c.in_ok-of.field-0 c.change.result c.change.ensures.changes))
 
 pub returns-clause-pass : goal.returns-clause-pass
-returns-clause-pass g c =
-    let then = c.change.ensures.pass in
-    learns_then c.args.pass.now c.floor.new.pass c.change.new.pass c.floor.ensures.pass then.board then.word then.own then.more
+returns-clause-pass g c = learns_on c.args.pass.now c.floor.new.pass c.change.new.pass c.floor.ensures.pass c.change.ensures.pass

@@ -1,8 +1,9 @@
 use Rattle.std.proofs.Common.{◌≡◌, List, [], ◌∷◌, ◌++◌, sym, ap, ◌∙◌, subst, rules}
 use Rattle.ms_core.specs.Views.{IsClosed, log_in}
 use Rattle.ms_ken.specs.Lists.{list_at, with_told, longer_lists}
+use Rattle.ms_link.specs.Composing.{learns_on}
 use Rattle.ms_link.specs.Links.{Learns}
-use Rattle.ms_memory.proofs.Serving.{agrees_more, owned, may_tell, learns_event, learns_then, taken_by, told_agrees}
+use Rattle.ms_memory.proofs.Serving.{agrees_more, owned, may_tell, learns_event, taken_by, told_agrees}
 use Rattle.ms_memory.specs.Served.{Served, served, IsTakenBy, LearnsEvent}
 use Rattle.ms_memory.specs.Shelves.{Holds, IsOpenTo}
 use Rattle.ms_record.specs.declared.item.Item.{Item}
@@ -75,4 +76,4 @@ returns-clause-pass g c =
     let met = c.meet.ensures in
     let first : Learns c.args.pass.now c.meet.new.other = record { board = ap (λ p. p.board) met.other; word = ap (λ p. p.word) met.other; own = met.own_other; more = met.both_know_other.1 } in
     let longer = c.take.ensures.longer in
-    learns_then c.args.pass.now c.meet.new.other c.take.new.pass first (ap (λ p. p.board) longer) (ap (λ p. p.word) longer) c.take.ensures.own c.take.ensures.keeps
+    learns_on c.args.pass.now c.meet.new.other c.take.new.pass first (record { board = ap (λ p. p.board) longer; word = ap (λ p. p.word) longer; own = c.take.ensures.own; more = c.take.ensures.keeps })

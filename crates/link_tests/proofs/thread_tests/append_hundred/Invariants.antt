@@ -1,0 +1,9 @@
+use Rattle.std.proofs.Common.{◌≡◌}
+use Rattle.link_tests.specs.Untold.{IsReady}
+use Rattle.link_tests.proofs.thread_tests.append_hundred.Given as goal
+
+abbrev pub invariant-loop-number : goal.invariant-loop-number
+invariant-loop-number g l = record {
+  board : l.board ≡ (g.L.Link.sees l.link).board;
+  ready : IsReady (g.L.Link.sees l.link).board (g.L.Link.sees l.link).service l.pass;
+}

@@ -1,0 +1,16 @@
+//! Calls on links with faults over services in memory, and what each answers.
+#![tactic(auto)]
+
+pub mod call;
+#[cfg(test)]
+mod fault_tests;
+#[cfg(test)]
+mod large_tests;
+#[cfg(test)]
+mod memory_tests;
+#[cfg(test)]
+mod thread_tests;
+#[cfg(test)]
+mod told;
+#[cfg(test)]
+mod untold;

@@ -1,9 +1,0 @@
-use Rattle.std.proofs.Common.{◌≡◌}
-use Rattle.ms_memory.specs.Untold.{IsReady}
-use Rattle.ms_memory.proofs.tests.append_hundred.Given as goal
-
-abbrev pub invariant-loop-number : goal.invariant-loop-number
-invariant-loop-number g l = record {
-  board : l.board ≡ (g.L.Link.sees l.link).board;
-  ready : IsReady (g.L.Link.sees l.link).board (g.L.Link.sees l.link).service l.pass;
-}

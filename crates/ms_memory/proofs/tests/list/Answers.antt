@@ -1,6 +1,0 @@
-use Rattle.ms_memory.proofs.Following.{ready_stays}
-use Rattle.ms_memory.proofs.tests.list.Goals as goal
-
-pub returns-clause-ready : goal.returns-clause-ready
-returns-clause-ready g c =
-    ready_stays (g.L.Link.sees c.args.link.now) (g.L.Link.sees c.list.new.self) c.args.pass.now c.list.new.pass c.requires.ready c.list.ensures.link c.list.ensures.pass
