@@ -1,2 +1,2 @@
-pub mod FirstPlan
+pub mod FirstSetting
 pub mod WrongLines

@@ -1,6 +1,5 @@
 -- The text of a drill: the setting of its head, and its events.
-use Rattle.std.specs.Prelude.{◌≡◌, ◌⊎◌, ℕ, ◌+◌, ◌≤◌, nat_lt, List, [], ◌∷◌, ◌++◌, length, map, slice_get, IsSome, Option, Some, None, Result, Ok, Err, if◌then◌else◌}
-use Rattle.std.specs.List.{range_with_len}
+use Rattle.std.specs.Prelude.{◌≡◌, ◌⊎◌, ℕ, ◌+◌, ◌≤◌, nat_lt, List, [], ◌∷◌, ◌++◌, length, slice_get, IsSome, Option, Some, None, Result, Ok, Err, if◌then◌else◌}
 use Rattle.std.specs.Option.{option_map}
 use Rattle.sha2.specs.Sha256.{sha256}
 use Rattle.ms_base.specs.declared.names.Name.{Name}
@@ -8,27 +7,23 @@ use Rattle.ms_base.specs.declared.names.Quantity.TheVariants as quantities
 use Rattle.ms_world.specs.declared.event.Event.{Event}
 use Rattle.ms_drill.specs.declared.head.Head.{Head}
 use Rattle.ms_drill.specs.declared.drill.Drill.{Drill}
-use Rattle.ms_drill.specs.Lines.{event_at, head_at, client_of, row_of}
+use Rattle.ms_drill.specs.Lines.{event_at, head_at, client_of}
 use Rattle.ms_object.specs.Objects.{empty_version}
 use Rattle.ms_record.specs.declared.entry.Entry.{Entry}
 use Rattle.ms_record.specs.declared.refusal.Place.TheVariants as places
 use Rattle.ms_record.specs.declared.refusal.Refusal.{Refusal}
 use Rattle.ms_record.specs.declared.refusal.Refusal.TheVariants as refusals
 use Rattle.ms_record.specs.declared.setting.Setting.{Setting}
-use Rattle.ms_record.specs.Plans.{PlanView, plan_of}
+use Rattle.ms_record.specs.Settings.{even_plan}
 use Rattle.ms_text.specs.Lines.{lines_of, read_lines}
 
 -- the name of a text
 abbrev pub named : List ℕ → Name
 named text = record { 0 = sha256 text }
 
--- the first plan: generation 1, format 1, unit 1, and capacity 1 for each service
-abbrev pub first_plan : Head → PlanView
-first_plan head = plan_of 1 1 head.replicas 1 (map row_of (range_with_len 0 head.services))
-
 -- the genesis, whose member before is the SHA-256 of the head's line
 abbrev pub genesis_of : List ℕ → Head → Entry
-genesis_of line head = record { before = named line; client = client_of 0; number = 0; version = empty_version; plan = Some (first_plan head) }
+genesis_of line head = record { before = named line; client = client_of 0; number = 0; version = empty_version; plan = Some (even_plan head.services head.replicas) }
 
 abbrev pub setting_of : List ℕ → Head → Setting
 setting_of line head = record { services = head.services; clients = head.clients; genesis = genesis_of line head }

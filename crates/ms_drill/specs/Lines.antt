@@ -12,6 +12,7 @@ use Rattle.ms_drill.specs.declared.head.Head.{Head}
 use Rattle.ms_record.specs.declared.plan.PlanRow.{PlanRow}
 use Rattle.ms_record.specs.Plans.{PlanView, plan_of}
 use Rattle.ms_record.specs.PlanTests.{plan_if}
+use Rattle.ms_record.specs.Settings.{even_row}
 use Rattle.ms_text.specs.Words.{two_words, number_at, hex_at, name_at}
 
 -- a number of 32 or 64 bits
@@ -70,14 +71,10 @@ bid_at text = do
   want ← want_at round.1
   Some (events.Bid (client_of client.0) round.0 want)
 
--- a service with capacity 1
-abbrev pub row_of : ℕ → PlanRow
-row_of s = record { service = service_of s; capacity = 1 }
-
 -- these rows, and one for each word
 abbrev pub rows_on : List PlanRow → List (List ℕ) → Option (List PlanRow)
 rows_on rows [] = Some rows
-rows_on rows (word ∷ words) = u32_at word >>= λ s. rows_on (rows ++ row_of s ∷ []) words
+rows_on rows (word ∷ words) = u32_at word >>= λ s. rows_on (rows ++ even_row s ∷ []) words
 
 -- services joined by commas
 abbrev pub rows_at : List ℕ → Option (List PlanRow)
@@ -99,6 +96,15 @@ turn_at text = do
   number ← u32_then round.1
   plan ← plan_at number.1
   Some (events.Turn (client_of client.0) round.0 number.0 plan)
+
+-- `C ROUND NUMBER HEX64`
+unfoldable pub migrate_at : List ℕ → Option Event
+migrate_at text = do
+  client ← u32_then text
+  round ← u32_then client.1
+  number ← u32_then round.1
+  version ← name_at number.1
+  Some (events.Migrate (client_of client.0) round.0 number.0 (record { 0 = version }))
 
 -- `C S UPTO`
 unfoldable pub read_at : List ℕ → Option Event
@@ -136,6 +142,7 @@ client_event word text =
 unfoldable pub other_event : List ℕ → List ℕ → Option Event
 other_event word text =
     if bytes_eq word (codes "learn") then learn_at text
+    else if bytes_eq word (codes "migrate") then migrate_at text
     else if bytes_eq word (codes "read") then read_at text
     else if bytes_eq word (codes "deliver") then deliver_at text
     else if bytes_eq word (codes "place") then place_at text

@@ -1,20 +1,22 @@
 //! Drills: a setting, and events in their order.
 
-ghost use Rattle.std.specs.Prelude.{◌≡◌, ◌<◌, ◌-◌, ◌^◌, ℕ, length, Err, IfOk};
-ghost use Rattle.ms_drill.specs.Drills.{drill_at, events_at, first_plan, setting_of, IsHead, IsWrongLine, ReadsDrill, ReadsEvents};
-ghost use Rattle.ms_record.specs.Plans.{IsPlan};
+ghost use Rattle.std.specs.Prelude.{◌≡◌, ◌<◌, ◌-◌, ◌^◌, ℕ, All, length, Err, IfOk};
+ghost use Rattle.ms_drill.specs.Drills.{drill_at, events_at, setting_of, IsHead, IsWrongLine, ReadsDrill, ReadsEvents};
 ghost use Rattle.ms_record.specs.Settings.{IsSetting};
 ghost use Rattle.ms_record.specs.declared.refusal.Refusal.TheVariants as refusals;
 ghost use Rattle.ms_record.specs.declared.refusal.Place.TheVariants as places;
 ghost use Rattle.ms_text.specs.Lines.{lines_of};
+ghost use Rattle.ms_world.specs.Steps.{IsEvent};
 
 use crate::event::read_event;
 use crate::head::{Head, read_head};
-use ms_base::{ClientId, Items, Name, Quantity, ServiceId};
-use ms_world::Event;
+use ms_base::limits::EVENTS;
+use ms_base::{ClientId, Items, Quantity};
 use ms_object::{empty_version, name_of};
-use ms_record::{Entry, Place, Plan, PlanRow, Refusal, Setting};
+use ms_record::{Entry, Place, Plan, Refusal, Setting, wrong_line};
 use ms_text::next_line;
+use ms_world::Event;
+use ms_world::world::event_ranges;
 use std::alloc::Global;
 
 /// A list of events.
@@ -27,28 +29,23 @@ pub struct Drill {
     pub events: Events,
 }
 
-/// The most events of a drill.
-const MOST_EVENTS: u64 = 10_000;
-
-/// The most services.
-const MOST_SERVICES: usize = 16;
-
 /// The drill that the text spells: `docs/FORMATS.md`, drill.
 pub fn read_drill(alloc: Global, text: &[u8]) -> Result<Drill, Refusal>
     requires { length text.now < 2 ^ 32 - 2 }
     ensures exact { ReadsDrill (drill_at text.now) result }
     ensures first { (line : ℕ) → drill_at text.now ≡ Err (refusals.BadInput places.Input line) → IsWrongLine (lines_of text.now) line }
     ensures setting { IfOk result (λ d. IsSetting d.setting) }
+    ensures ranges { IfOk result (λ d. All IsEvent d.events) }
 {
     if text.is_empty() {
-        return Err(wrong_line(1));
+        return Err(wrong_line(Place::Input, 1));
     }
     let (first, rest) = next_line(text);
     let Some(head) = read_head(first) else {
-        return Err(wrong_line(1));
+        return Err(wrong_line(Place::Input, 1));
     };
     let count = count_lines(rest);
-    if count > MOST_EVENTS {
+    if count > EVENTS {
         return Err(Refusal::Limit {
             what: Quantity::Events,
             value: count,
@@ -59,15 +56,6 @@ pub fn read_drill(alloc: Global, text: &[u8]) -> Result<Drill, Refusal>
         setting: setting(first, head),
         events,
     })
-}
-
-fn wrong_line(line: u32) -> Refusal
-    ensures { result ≡ refusals.BadInput places.Input line }
-{
-    Refusal::BadInput {
-        place: Place::Input,
-        line,
-    }
 }
 
 /// How many lines a text has.
@@ -87,7 +75,8 @@ fn count_lines(text: &[u8]) -> u64
 /// The events of the lines behind the head.
 fn read_events(alloc: Global, text: &[u8]) -> Result<Events, Refusal>
     requires { length text.now < 2 ^ 32 - 2 }
-    ensures { ReadsEvents (events_at (lines_of text.now)) result }
+    ensures read { ReadsEvents (events_at (lines_of text.now)) result }
+    ensures ranges { IfOk result (λ events. All IsEvent events) }
 {
     let mut events = Items::new(alloc);
     let mut rest = text;
@@ -95,8 +84,11 @@ fn read_events(alloc: Global, text: &[u8]) -> Result<Events, Refusal>
     while !rest.is_empty() {
         let (first, after) = next_line(rest);
         match read_event(alloc, first)? {
-            Some(event) => events.push(event)?,
-            None => return Err(wrong_line(line)),
+            Some(event) => {
+                event_ranges(&event);
+                events.push(event)?
+            }
+            None => return Err(wrong_line(Place::Input, line)),
         }
         rest = after;
         line += 1;
@@ -115,33 +107,11 @@ fn setting(line: &[u8], head: Head) -> Setting
         client: ClientId(0),
         number: 0,
         version: empty_version(),
-        plan: Some(first_plan(head)),
+        plan: Some(Plan::even(head.services, head.replicas)),
     };
     Setting {
         services: head.services,
         clients: head.clients,
         genesis,
-    }
-}
-
-/// The first plan: capacity 1 for each service.
-fn first_plan(head: Head) -> Plan
-    requires { IsHead head }
-    ensures is { result ≡ first_plan head }
-    ensures keeps { IsPlan result }
-{
-    let mut rows = [PlanRow {
-        service: ServiceId(0),
-        capacity: 1,
-    }; MOST_SERVICES];
-    for i in 0..MOST_SERVICES {
-        rows[i] = PlanRow {
-            service: ServiceId(i as u32),
-            capacity: 1,
-        };
-    }
-    match Plan::new(1, 1, head.replicas, 1, &rows[..head.services as usize]) {
-        Some(plan) => plan,
-        None => unreachable!(),
     }
 }

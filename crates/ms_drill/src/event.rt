@@ -3,12 +3,12 @@
 ghost use Rattle.std.specs.Prelude.{◌≡◌, ◌==◌, [], map, IfOk};
 ghost use Rattle.std.specs.List.{slice_split};
 ghost use Rattle.std.specs.Option.{option_map};
-ghost use Rattle.ms_drill.specs.Lines.{u32_at, u64_at, u32_then, start_at, stop_at, offer_at, learn_at, deliver_at, push_at, want_at, bid_at, rows_on, rows_at, plan_at, turn_at, read_at, place_at, drop_at, client_event, other_event, event_at};
+ghost use Rattle.ms_drill.specs.Lines.{u32_at, u64_at, u32_then, start_at, stop_at, offer_at, learn_at, deliver_at, push_at, want_at, bid_at, rows_on, rows_at, plan_at, turn_at, migrate_at, read_at, place_at, drop_at, client_event, other_event, event_at};
 
 use ms_base::{Bytes, ClientId, Name, NoMemory, ServiceId};
-use ms_world::{Event, Push};
 use ms_record::{Plan, PlanRow};
 use ms_text::{hex_bytes, name, number, split_at_space};
+use ms_world::{Event, Push};
 use std::alloc::{AllocError, Global};
 
 /// The greatest number of 32 bits.
@@ -132,6 +132,23 @@ fn read_bid(text: &[u8]) -> Option<Event>
         client: ClientId(client),
         round,
         want,
+    })
+}
+
+/// `C ROUND NUMBER HEX64`.
+#[tactic(auto, unfolding(crate::specs::Lines::migrate_at))]
+fn read_migrate(text: &[u8]) -> Option<Event>
+    ensures { result ≡ migrate_at text.now }
+{
+    let (client, rest) = read_then(text)?;
+    let (round, rest) = read_then(rest)?;
+    let (number, rest) = read_then(rest)?;
+    let version = name(rest)?;
+    Some(Event::Migrate {
+        client: ClientId(client),
+        round,
+        number,
+        version: Name(version),
     })
 }
 
@@ -291,6 +308,8 @@ fn read_other_event(alloc: Global, word: &[u8], text: &[u8]) -> Result<Option<Ev
 {
     if word == b"learn".as_slice() {
         Ok(read_learn(text))
+    } else if word == b"migrate".as_slice() {
+        Ok(read_migrate(text))
     } else if word == b"read".as_slice() {
         Ok(read_read(text))
     } else if word == b"deliver".as_slice() {

@@ -1,18 +1,22 @@
 //! A world that runs.
 
-ghost use Rattle.std.specs.Prelude.{◌≡◌, ◌<◌, ◌^◌, Some, IfOk, OnErr, length, slice_get};
+ghost use Rattle.std.specs.Prelude.{◌≡◌, ◌+◌, ◌<◌, ◌^◌, ℕ, List, Some, IfOk, OnErr, length, slice_get};
 ghost use Rattle.ms_world.specs.declared.event.Event.TheVariants as events;
 ghost use Rattle.ms_world.specs.Held.{IsReached, StepsTo};
 ghost use Rattle.ms_world.specs.Refusals.{Tries};
 ghost use Rattle.ms_world.specs.Steps.{IsEvent};
-ghost use Rattle.ms_world.specs.Worlds.{ClientView, start_world, votes_of_world};
-ghost use Rattle.ms_record.specs.Chains.{IsChain, IsLinked};
+ghost use Rattle.ms_world.specs.Worlds.{ClientView, log_of, start_world, votes_of_world};
+ghost use Rattle.ms_core.specs.Placing.{StaysPlaced};
+ghost use Rattle.ms_core.specs.Valid.{IsLive, Names, plan_at};
+ghost use Rattle.ms_record.specs.declared.entry.Entry.{Entry};
+ghost use Rattle.ms_record.specs.Chains.{Agrees, Begins, IsChain, IsChosen, IsLinked};
 ghost use Rattle.ms_record.specs.Plans.{IsPlan};
 ghost use Rattle.ms_record.specs.Settings.{IsSetting, origin_of};
 
 use crate::behind::{genesis_plan, plan_behind};
 use crate::chain::follow;
 use crate::event::{Event, Push};
+use crate::law::every_run;
 use crate::reached::{chains_go_on, runs_go_on, states_hold};
 use crate::state::State;
 use ms_base::{Bytes, ClientId, Name, NoMemory, ServiceId};
@@ -101,9 +105,25 @@ impl World {
         ensures set { IsSetting self.now.setting }
         ensures reached { IsReached self.now.setting self.now.world }
         ensures clients { length self.now.world.clients ≡ self.now.setting.clients }
+        // Two entries chosen at one position are one.
+        ensures agrees { Agrees (votes_of_world self.now.world) (origin_of self.now.setting) }
+        // There is a chain.
+        ensures chain { (chain : List Entry) × IsChain (votes_of_world self.now.world) (origin_of self.now.setting) chain }
+        // A chosen entry stands in the chain at its position.
+        ensures stands { (chain : List Entry) → IsChain (votes_of_world self.now.world) (origin_of self.now.setting) chain
+            → (i : ℕ) (e : Entry) → IsChosen (votes_of_world self.now.world) (origin_of self.now.setting) (i + 1) e → slice_get chain i ≡ Some e }
+        // Each client's chain begins the chain.
+        ensures begins { (chain : List Entry) → IsChain (votes_of_world self.now.world) (origin_of self.now.setting) chain
+            → (client : ℕ) (c : ClientView) → slice_get self.now.world.clients client ≡ Some c → Begins c.chain chain }
+        // Each member of a client's chain names the SHA-256 of the bytes of the member before it.
+        ensures names { (client : ℕ) (c : ClientView) → slice_get self.now.world.clients client ≡ Some c → Names self.now.setting c.chain }
+        // A live master stays placed, whatever was dropped.
+        ensures live { (chain : List Entry) → IsChain (votes_of_world self.now.world) (origin_of self.now.setting) chain
+            → (i : ℕ) (e : Entry) → IsLive self.now.setting chain i e → StaysPlaced (log_of self.now.world) (plan_at self.now.setting chain i) e.version }
     {
         let _ = &self.state;
         states_hold();
+        every_run();
     }
 }
 
@@ -199,7 +219,7 @@ fn drop_below(
 }
 
 /// The numbers and names of an event are in the ranges of their types.
-fn event_ranges(event: &Event)
+pub fn event_ranges(event: &Event)
     ensures { IsEvent event.now }
 {
     match event {
