@@ -1,7 +1,7 @@
 //! Configurations whose first wrong line, or whose genesis, was known before.
 
 use crate::{Config, config_laws, read_config};
-use ms_base::{ClientId, ServiceId};
+use ms_base::{ClientId, Name, ServiceId};
 use ms_record::{Place, Refusal, entry_name};
 use std::alloc::{AllocError, Global};
 use std::test::*;
@@ -53,189 +53,250 @@ fn copies(config: &Config) -> Option<u64> {
     Some(row.capacity / plan.unit())
 }
 
+/// Whether this is the first wrong line of a head, services and clients; 0 where none is wrong.
+fn is_wrong_at(alloc: Global, head: &str, services: &str, clients: &str, line: u32) -> bool {
+    match joined(alloc, head, services, clients) {
+        Ok(text) => wrong_line(alloc, text.as_bytes()) == line,
+        Err(_) => false,
+    }
+}
+
+/// Whether this is the first wrong line where a line stands behind the three services.
+fn service_is_wrong_at(alloc: Global, service: &str, line: u32) -> bool {
+    match format!(in alloc; "{SERVICES}{service}") {
+        Ok(services) => is_wrong_at(alloc, HEAD, services.as_str(), CLIENTS, line),
+        Err(_) => false,
+    }
+}
+
+/// Whether this is the first wrong line where a line stands behind the two clients.
+fn client_is_wrong_at(alloc: Global, client: &str, line: u32) -> bool {
+    match format!(in alloc; "{CLIENTS}{client}") {
+        Ok(clients) => is_wrong_at(alloc, HEAD, SERVICES, clients.as_str(), line),
+        Err(_) => false,
+    }
+}
+
+/// The configuration of three services and two clients.
+fn three_and_two(alloc: Global) -> Result<Config, Fail> {
+    let text = joined(alloc, HEAD, SERVICES, CLIENTS)?;
+    Ok(read_config(alloc, text.as_bytes()).ok().ok_or("read")?)
+}
+
+/// Whether these digits spell the name.
+fn is_named(alloc: Global, name: &Name, digits: &str) -> bool {
+    match hex::encode(alloc, &name.0) {
+        Ok(text) => text.as_str() == digits,
+        Err(_) => false,
+    }
+}
+
 #[test]
 fn three_services_and_two_clients(rt: HostRuntime) -> Result<(), Fail> {
-    let alloc = rt.alloc();
-    let text = joined(alloc, HEAD, SERVICES, CLIENTS)?;
-    let config = read_config(alloc, text.as_bytes()).ok().ok_or("read")?;
-    let setting = config.setting();
-    assert_eq!(rt; setting.services, 3);
-    assert_eq!(rt; setting.clients, 2);
-    let genesis = &setting.genesis;
-    let before = hex::encode(alloc, &genesis.before.0)?;
-    assert_eq!(rt; before.as_str(), BEFORE);
-    let version = hex::encode(alloc, &genesis.version.0)?;
-    assert_eq!(rt; version.as_str(), EMPTY_VERSION);
-    let name = hex::encode(alloc, &entry_name(genesis).0)?;
-    assert_eq!(rt; name.as_str(), GENESIS);
-    assert_eq!(rt; config.client("ann"), Some(ClientId(0)));
-    assert_eq!(rt; config.client("bob"), Some(ClientId(1)));
-    assert_eq!(rt; config.client("s1"), None);
-    assert!(rt;
-        config
-            .client_label(ClientId(1))
-            .is_some_and(|label| label == "bob")
-    );
-    assert!(rt; config.client_label(ClientId(2)).is_none());
-    assert!(rt;
-        config
-            .service_label(ServiceId(2))
-            .is_some_and(|label| label == "s3")
-    );
+    let config = three_and_two(rt.alloc())?;
+    assert_eq!(rt; config.setting().services, 3);
+    assert_eq!(rt; config.setting().clients, 2);
+    Ok(())
+}
+
+#[test]
+fn names_of_a_genesis(rt: HostRuntime) -> Result<(), Fail> {
+    let config = three_and_two(rt.alloc())?;
+    let genesis = &config.setting().genesis;
+    assert!(rt; is_named(rt.alloc(), &genesis.before, BEFORE));
+    assert!(rt; is_named(rt.alloc(), &genesis.version, EMPTY_VERSION));
+    assert!(rt; is_named(rt.alloc(), &entry_name(genesis), GENESIS));
+    Ok(())
+}
+
+#[test]
+fn clients_by_their_labels(rt: HostRuntime) -> Result<(), Fail> {
+    let config = three_and_two(rt.alloc())?;
+    assert!(rt; config.client("bob") == Some(ClientId(1)));
+    assert!(rt; config.client("s1").is_none());
+    assert!(rt; config.client_label(ClientId(1)) == Some("bob"));
+    Ok(())
+}
+
+#[test]
+fn services_by_their_numbers(rt: HostRuntime) -> Result<(), Fail> {
+    let config = three_and_two(rt.alloc())?;
+    assert!(rt; config.service_label(ServiceId(2)) == Some("s3"));
     assert!(rt; config.service_label(ServiceId(3)).is_none());
     Ok(())
 }
 
 #[test]
-fn replicas_above_the_services(rt: HostRuntime) -> Result<(), Fail> {
-    let alloc = rt.alloc();
+fn replicas_above_the_services(rt: HostRuntime) {
     let head = "{\"metasync\":1,\"replicas\":4,\"unit\":1000}\n";
-    let text = joined(alloc, head, SERVICES, CLIENTS)?;
-    assert_eq!(rt; wrong_line(alloc, text.as_bytes()), 5);
-    let text = joined(alloc, head, SERVICES, "")?;
-    assert_eq!(rt; wrong_line(alloc, text.as_bytes()), 5);
-    let text = joined(
-        alloc,
-        "{\"metasync\":1,\"replicas\":3,\"unit\":1000}\n",
-        SERVICES,
-        CLIENTS,
-    )?;
-    assert_eq!(rt; wrong_line(alloc, text.as_bytes()), 0);
-    Ok(())
+    assert!(rt; is_wrong_at(rt.alloc(), head, SERVICES, CLIENTS, 5));
+    assert!(rt; is_wrong_at(rt.alloc(), head, SERVICES, "", 5));
 }
 
 #[test]
-fn capacities_of_a_configuration(rt: HostRuntime) -> Result<(), Fail> {
-    let alloc = rt.alloc();
-    for capacity in [999, 17000] {
-        let refused = with_capacity(alloc, capacity)?;
-        assert!(rt;
-            matches!(
-                refused,
-                Err(Refusal::BadInput {
+fn as_many_replicas_as_services(rt: HostRuntime) {
+    let head = "{\"metasync\":1,\"replicas\":3,\"unit\":1000}\n";
+    assert!(rt; is_wrong_at(rt.alloc(), head, SERVICES, CLIENTS, 0));
+}
+
+/// Whether the first of three services has so many copies at this capacity.
+fn has_copies(alloc: Global, capacity: u64, wanted: u64) -> bool {
+    match with_capacity(alloc, capacity) {
+        Ok(Ok(config)) => copies(&config) == Some(wanted),
+        _ => false,
+    }
+}
+
+/// Whether line 2 is the first wrong one at this capacity of the first service.
+fn is_wrong_capacity(alloc: Global, capacity: u64) -> bool {
+    match with_capacity(alloc, capacity) {
+        Ok(
+            Err(
+                Refusal::BadInput {
                     place: Place::Config,
-                    line: 2,
-                })
-            )
-        );
+                    line,
+                },
+            ),
+        ) => line == 2,
+        _ => false,
     }
-    let config = with_capacity(alloc, 1000)?.ok().ok_or("read")?;
-    assert_eq!(rt; copies(&config), Some(1));
-    let config = with_capacity(alloc, 16999)?.ok().ok_or("read")?;
-    assert_eq!(rt; copies(&config), Some(16));
-    Ok(())
 }
 
 #[test]
-fn heads_outside_the_grammar(rt: HostRuntime) -> Result<(), Fail> {
-    let alloc = rt.alloc();
-    assert_eq!(rt; wrong_line(alloc, b""), 1);
-    for head in [
-        "\n",
-        "{\"metasync\":2,\"replicas\":2,\"unit\":1000}\n",
-        "{\"metasync\":1,\"replicas\":0,\"unit\":1000}\n",
-        "{\"metasync\":1,\"replicas\":17,\"unit\":1000}\n",
-        "{\"metasync\":1,\"replicas\":2,\"unit\":0}\n",
-        "{\"metasync\":1,\"replicas\":2}\n",
-        "{\"metasync\":1,\"replicas\":2,\"unit\":1000,\"more\":1}\n",
-        "{\"metasync\":1.0,\"replicas\":2,\"unit\":1000}\n",
-        "{\"metasync\":1,\"replicas\":2.0,\"unit\":1000}\n",
-        "{\"metasync\":1,\"replicas\":2,\"unit\":18446744073709551616}\n",
-        "{\"metasync\":1,\"replicas\":2,\"unit\":1e3}\n",
-        "{\"metasync\":1,\"replicas\":2,\"unit\":-0}\n",
-        "{\"metasync\":1,\"replicas\":\"2\",\"unit\":1000}\n",
-        "[1,2,1000]\n",
-        "{\"metasync\":1,\"replicas\":2,\"unit\":1000}}\n",
-    ] {
-        let text = joined(alloc, head, SERVICES, CLIENTS)?;
-        assert_eq!(rt; wrong_line(alloc, text.as_bytes()), 1, "{head}");
+fn capacities_of_a_configuration(rt: HostRuntime) {
+    assert!(rt; has_copies(rt.alloc(), 1_000, 1));
+    assert!(rt; has_copies(rt.alloc(), 16_999, 16));
+    assert!(rt; is_wrong_capacity(rt.alloc(), 999));
+    assert!(rt; is_wrong_capacity(rt.alloc(), 17_000));
+}
+
+/// First lines outside the grammar.
+const WRONG_HEADS: [&str; 15] = [
+    "\n",
+    "{\"metasync\":2,\"replicas\":2,\"unit\":1000}\n",
+    "{\"metasync\":1,\"replicas\":0,\"unit\":1000}\n",
+    "{\"metasync\":1,\"replicas\":17,\"unit\":1000}\n",
+    "{\"metasync\":1,\"replicas\":2,\"unit\":0}\n",
+    "{\"metasync\":1,\"replicas\":2}\n",
+    "{\"metasync\":1,\"replicas\":2,\"unit\":1000,\"more\":1}\n",
+    "{\"metasync\":1.0,\"replicas\":2,\"unit\":1000}\n",
+    "{\"metasync\":1,\"replicas\":2.0,\"unit\":1000}\n",
+    "{\"metasync\":1,\"replicas\":2,\"unit\":18446744073709551616}\n",
+    "{\"metasync\":1,\"replicas\":2,\"unit\":1e3}\n",
+    "{\"metasync\":1,\"replicas\":2,\"unit\":-0}\n",
+    "{\"metasync\":1,\"replicas\":\"2\",\"unit\":1000}\n",
+    "[1,2,1000]\n",
+    "{\"metasync\":1,\"replicas\":2,\"unit\":1000}}\n",
+];
+
+#[test]
+fn heads_outside_the_grammar(rt: HostRuntime) {
+    for head in WRONG_HEADS {
+        assert!(rt; is_wrong_at(rt.alloc(), head, SERVICES, CLIENTS, 1));
     }
-    for head in [
-        " {\"unit\" : 1000, \"replicas\":2 ,\"metasync\":1}\r\n",
-        "{\"metasync\":7,\"replicas\":2,\"unit\":1000,\"metasync\":1}\n",
-        "{\"metasync\":1,\"replicas\":2,\"\\u0075nit\":1000}\n",
-    ] {
-        let text = joined(alloc, head, SERVICES, CLIENTS)?;
-        assert_eq!(rt; wrong_line(alloc, text.as_bytes()), 0, "{head}");
-    }
-    Ok(())
 }
 
 #[test]
-fn services_outside_the_grammar(rt: HostRuntime) -> Result<(), Fail> {
-    let alloc = rt.alloc();
-    for service in [
-        "\n",
-        "{\"service\":\"s1\",\"capacity\":1000}\n",
-        "{\"service\":\"-s\",\"capacity\":1000}\n",
-        "{\"service\":\"S\",\"capacity\":1000}\n",
-        "{\"service\":\"\",\"capacity\":1000}\n",
-        "{\"service\":\"abcdefghijklmnopqrstuvwxy\",\"capacity\":1000}\n",
-        "{\"service\":\"s\",\"capacity\":1000.0}\n",
-        "{\"service\":\"s\"}\n",
-        "{\"service\":\"s\",\"capacity\":1000,\"client\":\"c\"}\n",
-        "{\"service\":4,\"capacity\":1000}\n",
-        "{\"metasync\":1,\"replicas\":2,\"unit\":1000}\n",
-    ] {
-        let services = format!(in alloc; "{SERVICES}{service}")?;
-        let text = joined(alloc, HEAD, services.as_str(), CLIENTS)?;
-        assert_eq!(rt; wrong_line(alloc, text.as_bytes()), 5, "{service}");
+fn no_line_at_all(rt: HostRuntime) {
+    assert_eq!(rt; wrong_line(rt.alloc(), b""), 1);
+}
+
+/// First lines in other spellings.
+const HEADS: [&str; 3] = [
+    " {\"unit\" : 1000, \"replicas\":2 ,\"metasync\":1}\r\n",
+    "{\"metasync\":7,\"replicas\":2,\"unit\":1000,\"metasync\":1}\n",
+    "{\"metasync\":1,\"replicas\":2,\"\\u0075nit\":1000}\n",
+];
+
+#[test]
+fn heads_in_other_spellings(rt: HostRuntime) {
+    for head in HEADS {
+        assert!(rt; is_wrong_at(rt.alloc(), head, SERVICES, CLIENTS, 0));
     }
-    for service in [
-        "{\"capacity\":1000,\"service\":\"abcdefghijklmnopqrstuvwx\"}\n",
-        "{\"service\":\"0_-z\",\"capacity\":16999}\n",
-        "{\"service\":\"ann\",\"capacity\":1000}\n",
-    ] {
-        let services = format!(in alloc; "{SERVICES}{service}")?;
-        let text = joined(alloc, HEAD, services.as_str(), CLIENTS)?;
-        assert_eq!(rt; wrong_line(alloc, text.as_bytes()), 0, "{service}");
+}
+
+/// Lines that may not stand behind three services.
+const WRONG_SERVICES: [&str; 11] = [
+    "\n",
+    "{\"service\":\"s1\",\"capacity\":1000}\n",
+    "{\"service\":\"-s\",\"capacity\":1000}\n",
+    "{\"service\":\"S\",\"capacity\":1000}\n",
+    "{\"service\":\"\",\"capacity\":1000}\n",
+    "{\"service\":\"abcdefghijklmnopqrstuvwxy\",\"capacity\":1000}\n",
+    "{\"service\":\"s\",\"capacity\":1000.0}\n",
+    "{\"service\":\"s\"}\n",
+    "{\"service\":\"s\",\"capacity\":1000,\"client\":\"c\"}\n",
+    "{\"service\":4,\"capacity\":1000}\n",
+    "{\"metasync\":1,\"replicas\":2,\"unit\":1000}\n",
+];
+
+#[test]
+fn services_outside_the_grammar(rt: HostRuntime) {
+    for service in WRONG_SERVICES {
+        assert!(rt; service_is_wrong_at(rt.alloc(), service, 5));
     }
-    Ok(())
+}
+
+/// Services that may stand behind three.
+const FOURTH_SERVICES: [&str; 3] = [
+    "{\"capacity\":1000,\"service\":\"abcdefghijklmnopqrstuvwx\"}\n",
+    "{\"service\":\"0_-z\",\"capacity\":16999}\n",
+    "{\"service\":\"ann\",\"capacity\":1000}\n",
+];
+
+#[test]
+fn services_in_other_spellings(rt: HostRuntime) {
+    for service in FOURTH_SERVICES {
+        assert!(rt; service_is_wrong_at(rt.alloc(), service, 0));
+    }
+}
+
+/// Lines that may not stand behind two clients.
+const WRONG_CLIENTS: [&str; 11] = [
+    "{\"client\":\"ann\"}\n",
+    "{\"client\":\"Ann\"}\n",
+    "{\"client\":null}\n",
+    "{\"client\":\"eve\",\"capacity\":1000}\n",
+    "{\"service\":\"s4\",\"capacity\":1000}\n",
+    "{\"client\":\"\\u0061nn\"}\n",
+    "\u{feff}{\"client\":\"eve\"}\n",
+    "{\"client\":\"eve\",\"client\":\"ann\"}\n",
+    "null\n",
+    "\r\n",
+    "\n",
+];
+
+#[test]
+fn clients_outside_the_grammar(rt: HostRuntime) {
+    for client in WRONG_CLIENTS {
+        assert!(rt; client_is_wrong_at(rt.alloc(), client, 7));
+    }
 }
 
 #[test]
-fn clients_outside_the_grammar(rt: HostRuntime) -> Result<(), Fail> {
-    let alloc = rt.alloc();
-    for client in [
-        "{\"client\":\"ann\"}\n",
-        "{\"client\":\"Ann\"}\n",
-        "{\"client\":null}\n",
-        "{\"client\":\"eve\",\"capacity\":1000}\n",
-        "{\"service\":\"s4\",\"capacity\":1000}\n",
-        "{\"client\":\"\\u0061nn\"}\n",
-        "\u{feff}{\"client\":\"eve\"}\n",
-        "{\"client\":\"eve\",\"client\":\"ann\"}\n",
-        "null\n",
-        "\r\n",
-        "\n",
-    ] {
-        let clients = format!(in alloc; "{CLIENTS}{client}")?;
-        let text = joined(alloc, HEAD, SERVICES, clients.as_str())?;
-        assert_eq!(rt; wrong_line(alloc, text.as_bytes()), 7, "{client}");
-    }
-    let text = joined(alloc, HEAD, SERVICES, "")?;
-    assert_eq!(rt; wrong_line(alloc, text.as_bytes()), 5);
-    let text = joined(alloc, HEAD, "", CLIENTS)?;
-    assert_eq!(rt; wrong_line(alloc, text.as_bytes()), 2);
-    assert_eq!(rt; wrong_line(alloc, HEAD.as_bytes()), 2);
-    let text = joined(alloc, HEAD, SERVICES, "{\"client\":\"eve\"}")?;
-    assert_eq!(rt; wrong_line(alloc, text.as_bytes()), 0);
-    Ok(())
+fn parties_that_are_missing(rt: HostRuntime) {
+    assert!(rt; is_wrong_at(rt.alloc(), HEAD, SERVICES, "", 5));
+    assert!(rt; is_wrong_at(rt.alloc(), HEAD, "", CLIENTS, 2));
+    assert!(rt; is_wrong_at(rt.alloc(), HEAD, "", "", 2));
 }
 
 #[test]
-fn clients_in_other_spellings(rt: HostRuntime) -> Result<(), Fail> {
-    let alloc = rt.alloc();
-    for client in [
-        "{\"client\":\"s1\"}\n",
-        "{\"\\u0063lient\":\"\\u0065ve\"}\n",
-        "\t{\"client\":\"ann\", \"client\":\"eve\" } \r\n",
-    ] {
-        let clients = format!(in alloc; "{CLIENTS}{client}")?;
-        let text = joined(alloc, HEAD, SERVICES, clients.as_str())?;
-        assert_eq!(rt; wrong_line(alloc, text.as_bytes()), 0, "{client}");
+fn a_last_line_without_an_end(rt: HostRuntime) {
+    assert!(rt; is_wrong_at(rt.alloc(), HEAD, SERVICES, "{\"client\":\"eve\"}", 0));
+}
+
+/// Clients that may stand behind two.
+const THIRD_CLIENTS: [&str; 3] = [
+    "{\"client\":\"s1\"}\n",
+    "{\"\\u0063lient\":\"\\u0065ve\"}\n",
+    "\t{\"client\":\"ann\", \"client\":\"eve\" } \r\n",
+];
+
+#[test]
+fn clients_in_other_spellings(rt: HostRuntime) {
+    for client in THIRD_CLIENTS {
+        assert!(rt; client_is_wrong_at(rt.alloc(), client, 0));
     }
-    Ok(())
 }
 
 /// So many lines, whose labels are a letter and a number.
@@ -248,20 +309,44 @@ fn many(alloc: Global, count: u32, before: &str, after: &str) -> Result<String, 
     Ok(text)
 }
 
+/// Whether this is the first wrong line of so many services and clients.
+fn many_are_wrong_at(
+    alloc: Global,
+    services: u32,
+    clients: u32,
+    line: u32,
+) -> Result<bool, AllocError> {
+    let services = many(
+        alloc,
+        services,
+        "{\"service\":\"s",
+        "\",\"capacity\":1000}\n",
+    )?;
+    let clients = many(alloc, clients, "{\"client\":\"c", "\"}\n")?;
+    Ok(is_wrong_at(alloc, HEAD, services.as_str(), clients.as_str(), line))
+}
+
 #[test]
 fn sixteen_of_each(rt: HostRuntime) -> Result<(), Fail> {
-    let alloc = rt.alloc();
-    for (services, clients, wrong) in [(16, 16, 0), (17, 16, 18), (16, 17, 34), (1, 1, 3)] {
-        let services = many(
-            alloc,
-            services,
-            "{\"service\":\"s",
-            "\",\"capacity\":1000}\n",
-        )?;
-        let clients = many(alloc, clients, "{\"client\":\"c", "\"}\n")?;
-        let text = joined(alloc, HEAD, services.as_str(), clients.as_str())?;
-        assert_eq!(rt; wrong_line(alloc, text.as_bytes()), wrong);
-    }
+    assert!(rt; many_are_wrong_at(rt.alloc(), 16, 16, 0)?);
+    Ok(())
+}
+
+#[test]
+fn seventeen_services(rt: HostRuntime) -> Result<(), Fail> {
+    assert!(rt; many_are_wrong_at(rt.alloc(), 17, 16, 18)?);
+    Ok(())
+}
+
+#[test]
+fn seventeen_clients(rt: HostRuntime) -> Result<(), Fail> {
+    assert!(rt; many_are_wrong_at(rt.alloc(), 16, 17, 34)?);
+    Ok(())
+}
+
+#[test]
+fn a_service_too_few_for_the_replicas(rt: HostRuntime) -> Result<(), Fail> {
+    assert!(rt; many_are_wrong_at(rt.alloc(), 1, 1, 3)?);
     Ok(())
 }
 
