@@ -73,55 +73,83 @@ fn mapping_of_the_empty_blob(rt: HostRuntime) -> Result<(), Fail> {
     Ok(())
 }
 
-/// Names that begin with the bytes e3 b0, ba 78 and df 7e have the slots 944, 632 and 894.
+/// The first two bytes of names, and their slots.
+const SLOTS: [(u8, u8, u32); 3] = [(0xe3, 0xb0, 944), (0xba, 0x78, 632), (0xdf, 0x7e, 894)];
+
+fn has_slot(table: &Table, slot: &(u8, u8, u32)) -> bool {
+    table.order(&name_from(slot.0, slot.1)) == table.order(&name_in(slot.2))
+}
+
+/// The table of services of one, five and sixteen copies.
+fn three(alloc: Global) -> Result<Table, &'static str> {
+    table(
+        alloc,
+        2,
+        1000,
+        &[row(0, 1000), row(3, 5000), row(15, 16000)],
+    )
+}
+
 #[test]
 fn slots_of_names(rt: HostRuntime) -> Result<(), Fail> {
-    let alloc = rt.alloc();
-    let rows = [row(0, 1000), row(3, 5000), row(15, 16000)];
-    let table = table(alloc, 2, 1000, &rows)?;
-    for (first, second, slot) in [(0xe3, 0xb0, 944), (0xba, 0x78, 632), (0xdf, 0x7e, 894)] {
-        assert!(rt; table.order(&name_from(first, second)) == table.order(&name_in(slot)));
+    let table = three(rt.alloc())?;
+    for slot in SLOTS {
+        assert!(rt; has_slot(&table, &slot));
     }
     Ok(())
 }
+
+/// Whether the slot has this order, and its places are the first of it.
+fn has_order(table: &Table, slot: u32, order: &[u32]) -> bool {
+    let name = name_in(slot);
+    let places = table.places(&name);
+    are(table.order(&name), order)
+        && places.len() <= order.len()
+        && are(places, &order[..places.len()])
+}
+
+/// Orders of services of one, five and sixteen copies.
+const ORDERS_OF_THREE: [(u32, [u32; 3]); 7] = [
+    (0, [15, 0, 3]),
+    (1, [3, 15, 0]),
+    (7, [0, 3, 15]),
+    (10, [0, 15, 3]),
+    (512, [15, 3, 0]),
+    (632, [15, 3, 0]),
+    (1023, [3, 15, 0]),
+];
 
 #[test]
 fn orders_of_several_copies(rt: HostRuntime) -> Result<(), Fail> {
-    let alloc = rt.alloc();
-    let rows = [row(0, 1000), row(3, 5000), row(15, 16000)];
-    let table = table(alloc, 2, 1000, &rows)?;
-    for (slot, order) in [
-        (0, [15, 0, 3]),
-        (1, [3, 15, 0]),
-        (7, [0, 3, 15]),
-        (10, [0, 15, 3]),
-        (512, [15, 3, 0]),
-        (632, [15, 3, 0]),
-        (1023, [3, 15, 0]),
-    ] {
-        assert!(rt; are(table.order(&name_in(slot)), &order));
-        assert!(rt; are(table.places(&name_in(slot)), &order[..2]));
+    let table = three(rt.alloc())?;
+    for line in ORDERS_OF_THREE {
+        assert!(rt; has_order(&table, line.0, &line.1));
     }
     Ok(())
 }
 
-/// Service s has s + 1 copies.
-#[test]
-fn orders_of_sixteen_services(rt: HostRuntime) -> Result<(), Fail> {
-    let alloc = rt.alloc();
+/// The table of sixteen services, of which service s has s + 1 copies.
+fn sixteen(alloc: Global) -> Result<Table, &'static str> {
     let mut rows = [row(0, 10); 16];
     for i in 0..16u32 {
         rows[i as usize] = row(i, 7 * (u64::from(i) + 1) + 3);
     }
-    let table = table(alloc, 5, 7, &rows)?;
-    for (slot, order) in [
-        (0, [15, 13, 14, 6, 9, 12, 0, 4, 8, 2, 5, 11, 3, 1, 10, 7]),
-        (5, [7, 5, 11, 9, 14, 13, 10, 6, 15, 12, 8, 3, 1, 4, 2, 0]),
-        (944, [13, 14, 4, 5, 15, 12, 10, 8, 11, 9, 6, 7, 3, 2, 1, 0]),
-        (1023, [5, 8, 13, 9, 11, 3, 15, 12, 10, 4, 14, 7, 2, 6, 0, 1]),
-    ] {
-        assert!(rt; are(table.order(&name_in(slot)), &order));
-        assert!(rt; are(table.places(&name_in(slot)), &order[..5]));
+    table(alloc, 5, 7, &rows)
+}
+
+/// Orders of sixteen services.
+const ORDERS_OF_SIXTEEN: [(u32, [u32; 16]); 4] = [
+    (0, [15, 13, 14, 6, 9, 12, 0, 4, 8, 2, 5, 11, 3, 1, 10, 7]),
+    (5, [7, 5, 11, 9, 14, 13, 10, 6, 15, 12, 8, 3, 1, 4, 2, 0]),
+    (944, [13, 14, 4, 5, 15, 12, 10, 8, 11, 9, 6, 7, 3, 2, 1, 0]),
+    (1023, [5, 8, 13, 9, 11, 3, 15, 12, 10, 4, 14, 7, 2, 6, 0, 1]),
+];
+
+#[test]
+fn orders_of_sixteen_services(rt: HostRuntime) -> Result<(), Fail> {
+    let table = sixteen(rt.alloc())?;
+    for line in ORDERS_OF_SIXTEEN {
+        assert!(rt; has_order(&table, line.0, &line.1));
     }
     Ok(())
 }
