@@ -2,3 +2,4 @@ mod Running
 mod TextFaults
 mod CauseLaws
 mod RunLaws
+mod Together

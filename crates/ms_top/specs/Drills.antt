@@ -1,6 +1,6 @@
 -- What the command `drill` answers: the chain of the logs that a run leaves and what each client knows, or the event that
 -- can't happen, or what is wrong with the text.
-use Rattle.std.specs.Prelude.{◌≡◌, ◌⊎◌, ℕ, ◌+◌, List, ◌∷◌, ◌++◌, length, map, Result, Ok, Err}
+use Rattle.std.specs.Prelude.{◌≡◌, ◌⊎◌, ℕ, ◌+◌, List, ◌∷◌, ◌++◌, length, map, slice_get, Some, Result, Ok, Err}
 use Rattle.ms_base.specs.declared.names.Name.{Name}
 use Rattle.ms_world.specs.declared.event.Event.{Event}
 use Rattle.ms_world.specs.Held.{HeldView}
@@ -13,7 +13,7 @@ use Rattle.ms_record.specs.declared.entry.Entry.{Entry}
 use Rattle.ms_record.specs.declared.refusal.Refusal.{Refusal}
 use Rattle.ms_record.specs.declared.refusal.Refusal.TheVariants as refusals
 use Rattle.ms_record.specs.declared.refusal.Why.{Why}
-use Rattle.ms_record.specs.Chains.{IsChain}
+use Rattle.ms_record.specs.Chains.{Begins, IsChain}
 use Rattle.ms_record.specs.Entries.{name_of}
 use Rattle.ms_record.specs.Settings.{origin_of}
 use Rattle.ms_words.specs.declared.report.Report.{Report}
@@ -24,12 +24,21 @@ use Rattle.ms_top.specs.Inputs.{TextSays}
 abbrev pub known_of : WorldView → List ℕ
 known_of w = map (λ (c : ClientView). length c.chain) w.clients
 
+-- the chain of the logs begins with that of each client; of two clients' chains one begins the other; at a position they hold one
+-- master
+pub record HoldTogether (w : WorldView) (entries : List Entry) : Type 0 where
+  pub begins : (client : ℕ) (c : ClientView) → slice_get w.clients client ≡ Some c → Begins c.chain entries
+  pub one_list : (i j : ℕ) (c d : ClientView) → slice_get w.clients i ≡ Some c → slice_get w.clients j ≡ Some d → Begins c.chain d.chain ⊎ Begins d.chain c.chain
+  pub one_master : (i j place : ℕ) (c d : ClientView) (e f : Entry) → slice_get w.clients i ≡ Some c → slice_get w.clients j ≡ Some d
+      → slice_get c.chain place ≡ Some e → slice_get d.chain place ≡ Some f → e ≡ f
+
 -- all events of the drill happen, and lead to a world with this chain of the logs and these last positions
 pub record RunsWhole (drill : Drill) (genesis : Name) (entries : List Entry) (known : List ℕ) : Type 0 where
   pub world : WorldView
   pub run : IsRun drill.setting drill.events world
   pub genesis_is : genesis.0 ≡ name_of drill.setting.genesis
   pub chain : IsChain (votes_of_world world) (origin_of drill.setting) entries
+  pub together : HoldTogether world entries
   pub known_is : known ≡ known_of world
 
 -- the events before it happen; of this one, with this number from 1, that condition is the first that fails

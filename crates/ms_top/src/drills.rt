@@ -1,9 +1,12 @@
 //! The command `drill`.
 
-ghost use Rattle.std.specs.Prelude.{◌≡◌, ◌≤◌, length, IfOk};
-ghost use Rattle.ms_record.specs.Settings.{IsSetting};
+ghost use Rattle.std.specs.Prelude.{◌≡◌, ◌≤◌, length, IfOk, List};
+ghost use Rattle.ms_record.specs.Chains.{IsChain};
+ghost use Rattle.ms_record.specs.Settings.{IsSetting, origin_of};
+ghost use Rattle.ms_record.specs.declared.entry.Entry.{Entry};
+ghost use Rattle.ms_world.specs.Worlds.{votes_of_world};
 ghost use Rattle.ms_base.specs.declared.limits.TheConstants.{INPUT_BYTES};
-ghost use Rattle.ms_top.specs.Drills.{DrillSays, LeadsTo, RunSays, RunsEvents, known_of};
+ghost use Rattle.ms_top.specs.Drills.{DrillSays, HoldTogether, LeadsTo, RunSays, RunsEvents, known_of};
 ghost use Rattle.ms_top.specs.Steps.{OrNoMemory};
 
 use ms_base::{ClientId, Items, NoMemory};
@@ -11,6 +14,7 @@ use ms_drill::{Drill, read_drill};
 use ms_record::{Refusal, entry_name};
 use ms_words::{Known, Report};
 use ms_world::World;
+use ms_world::law::every_run;
 use std::alloc::Global;
 
 /// The answer on the text of a schedule.
@@ -47,12 +51,21 @@ fn run_events(alloc: Global, drill: &Drill) -> Result<World, Refusal>
     Ok(world)
 }
 
+/// Takes nothing and gives nothing; the clients of a world hold together.
+fn holds_together(world: &World)
+    ensures clients { length world.now.world.clients ≡ world.now.setting.clients }
+    ensures together { (entries : List Entry) → IsChain (votes_of_world world.now.world) (origin_of world.now.setting) entries → HoldTogether world.now.world entries }
+{
+    world.shows();
+    every_run();
+}
+
 /// The chain of the world's logs, and what its clients know.
 fn on_world(alloc: Global, drill: &Drill, world: &World) -> Result<Report, Refusal>
     requires { LeadsTo drill.now world.now }
     ensures { OrNoMemory result (RunSays drill.now result) }
 {
-    world.shows();
+    holds_together(world);
     Ok(Report::Drill {
         genesis: entry_name(&drill.setting.genesis),
         entries: world.chain()?,

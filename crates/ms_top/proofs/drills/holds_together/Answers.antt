@@ -1,0 +1,11 @@
+use Rattle.std.proofs.Common.{◌≡◌}
+use Rattle.ms_top.proofs.Together.{together}
+use Rattle.ms_top.proofs.drills.holds_together.Goals as goal
+
+pub returns-clause-together : goal.returns-clause-together
+returns-clause-together c = λ entries chain.
+    let reached = c.shows.ensures.reached in
+    let set = c.shows.ensures.set in
+    let setting = c.args.world.now.setting in
+    let w = c.args.world.now.world in
+    together w entries (c.every_run.ensures.begins setting reached.events w entries set reached.fit reached.run chain) (c.every_run.ensures.one_list setting reached.events w set reached.fit reached.run)
