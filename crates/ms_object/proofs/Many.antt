@@ -1,9 +1,8 @@
 -- Fields read one after another, behind those that were read.
 use Rattle.std.proofs.Common.{◌≡◌, ℕ, suc, ◌+◌, ◌-◌, ◌<◌, ◌≤◌, List, [], ◌∷◌, ◌++◌, Option, Some, None, refl, sym, ap, ◌∙◌, append_assoc, append-nil, length, arith}
 use Rattle.ms_base.specs.Options.{◌>>=◌}
-use Rattle.ms_object.specs.declared.object.Row.{Row}
-use Rattle.ms_object.specs.Fields.{many_at}
-use Rattle.ms_object.specs.Reading.{row_at, rows_at}
+use Rattle.ms_base.specs.Fields.{many_at}
+use Rattle.ms_object.specs.Reading.{RowReader, rows_at}
 
 -- the values before, and those that are still read
 abbrev pub with_front : {A S : Type 0} → List A → Option (List A × S) → Option (List A × S)
@@ -46,19 +45,19 @@ many_done {A} {S} one front count i left total le so_far =
 
 -- ---- rows, which end with the text
 
-abbrev pub read_so_far : ℕ → List ℕ → Option (List Row × (List ℕ × List ℕ))
-read_so_far count text = many_at row_at count ([], text)
+abbrev pub read_so_far : {R : Type 0} → RowReader R → ℕ → List ℕ → Option (List R × (List ℕ × List ℕ))
+read_so_far one count text = many_at one count ([], text)
 
-pub rows_missing : (count : ℕ) (text : List ℕ) → read_so_far count text ≡ None → rows_at count text ≡ None
+pub rows_missing : {R : Type 0} (one : RowReader R) (count : ℕ) (text : List ℕ) → read_so_far one count text ≡ None → rows_at one count text ≡ None
 unfolding rows_at
-rows_missing count text e = rw e refl
+rows_missing one count text e = rw e refl
 
-pub rows_read : (count : ℕ) (text : List ℕ) (rows : List Row) (before rest : List ℕ) → read_so_far count text ≡ Some (rows, (before, rest)) → length rest < 1 → rows_at count text ≡ Some rows
+pub rows_read : {R : Type 0} (one : RowReader R) (count : ℕ) (text : List ℕ) (rows : List R) (before rest : List ℕ) → read_so_far one count text ≡ Some (rows, (before, rest)) → length rest < 1 → rows_at one count text ≡ Some rows
 unfolding rows_at
-rows_read count text rows before [] e none = rw e refl
-rows_read count text rows before (b ∷ rest) e none = absurd (omega arith)
+rows_read one count text rows before [] e none = rw e refl
+rows_read one count text rows before (b ∷ rest) e none = absurd (omega arith)
 
-pub rows_left : (count : ℕ) (text : List ℕ) (rows : List Row) (before rest : List ℕ) → read_so_far count text ≡ Some (rows, (before, rest)) → 1 ≤ length rest → rows_at count text ≡ None
+pub rows_left : {R : Type 0} (one : RowReader R) (count : ℕ) (text : List ℕ) (rows : List R) (before rest : List ℕ) → read_so_far one count text ≡ Some (rows, (before, rest)) → 1 ≤ length rest → rows_at one count text ≡ None
 unfolding rows_at
-rows_left count text rows before [] e some = absurd (omega arith)
-rows_left count text rows before (b ∷ rest) e some = rw e refl
+rows_left one count text rows before [] e some = absurd (omega arith)
+rows_left one count text rows before (b ∷ rest) e some = rw e refl

@@ -4,7 +4,7 @@ use Rattle.std.specs.List.{flat_map}
 use Rattle.std.proofs.lemmas.Grind.{flat_map-append}
 use Rattle.std.proofs.lemmas.List.{take_more}
 use Rattle.std.proofs.lemmas.List.Concat.{flat_map-cons}
-use Rattle.ms_object.specs.Writing.{Grows}
+use Rattle.ms_base.specs.Fields.{Grows}
 
 pub four_pushed : (out a b c d x1 x2 x3 x4 : List ℕ) → x1 ≡ out ++ a → x2 ≡ x1 ++ b → x3 ≡ x2 ++ c → x4 ≡ x3 ++ d → x4 ≡ out ++ (a ++ b ++ c ++ d)
 four_pushed out a b c d x1 x2 x3 x4 p1 p2 p3 p4 = rw (p4, p3, p2, p1) (simp append_assoc)

@@ -1,6 +1,7 @@
 -- Rows that are read are spelled so, and what is spelled so is read again.
-use Rattle.std.proofs.Common.{◌≡◌, ℕ, zero, suc, ◌≤◌, Bool, true, false, cond, List, [], ◌∷◌, ◌++◌, length, Option, Some, None, refl, sym, ap, subst, ◌∙◌, append_assoc, append-nil, arith, ◌⊎◌, inl, inr}
+use Rattle.std.proofs.Common.{◌≡◌, ℕ, zero, suc, ◌^◌, ◌<◌, ◌≤◌, Bool, true, false, cond, List, [], ◌∷◌, ◌++◌, length, map, get_or, Option, Some, None, refl, sym, ap, subst, ◌∙◌, append_assoc, append-nil, arith, ◌⊎◌, inl, inr}
 use Rattle.std.specs.Prelude.{◌==◌, All, flat_map}
+use Rattle.std.specs.Int.{w64, to_be_bytes}
 use Rattle.std.specs.List.{AllByRecursion}
 use Rattle.std.specs.List.Sorted.{IsStrictlySortedBy}
 use Rattle.std.specs.declared.cmp.Ordering.{Ordering}
@@ -15,11 +16,13 @@ use Rattle.ms_base.specs.declared.names.Name.{Name}
 use Rattle.ms_object.specs.declared.object.Kind.{Kind}
 use Rattle.ms_object.specs.declared.object.Kind.TheVariants as kinds
 use Rattle.ms_object.specs.declared.object.Row.{Row}
-use Rattle.ms_object.specs.Fields.{IsBytes, byte_at, bytes_at, name_at, many_at, at_end}
+use Rattle.ms_object.specs.declared.object.SizedRow.{SizedRow}
+use Rattle.ms_base.specs.Fields.{IsBytes, Field, byte_at, bytes_at, number_at, name_at, many_at, at_end}
+use Rattle.ms_base.specs.FieldLaws.{Takes, FieldsRead, FieldsSpelled}
 use Rattle.ms_object.specs.Labels.{IsLabel, IsBefore, is_label}
-use Rattle.ms_object.specs.Objects.{AreNames, IsDir, kind_byte, labels_of, names_of, row_text}
-use Rattle.ms_object.specs.Reading.{given_if, kind_of, label_if, row_at, rows_at}
-use Rattle.ms_object.proofs.FieldLaws.{bind_some, some_is, given_is, both, ended, Takes, Takes-then, Takes-all, byte_takes, bytes_take, bytes_again, name_takes, name_again, All-cons, All-rest, All-first}
+use Rattle.ms_object.specs.Objects.{front_text, kind_byte, row_text, sized_row_text}
+use Rattle.ms_object.specs.Reading.{RowReader, given_if, kind_of, label_if, front_at, row_at, sized_row_at, rows_at}
+use Rattle.ms_object.proofs.FieldLaws.{bind_some, some_is, given_is, both, ended, Takes-then, Takes-all, All-cons, All-rest, All-first}
 use Rattle.ms_object.proofs.LabelLaws.{label_passes, label_keeps}
 
 -- ---- the order of labels
@@ -29,7 +32,7 @@ is_less Less h = refl
 is_less Equal h = absurd cc
 is_less Greater h = absurd cc
 
-abbrev Rise : List (List ℕ) → Type 0
+abbrev pub Rise : List (List ℕ) → Type 0
 Rise labels = IsStrictlySortedBy (slice_cmp nat_cmp) labels
 
 abbrev AllBehind : List ℕ → List (List ℕ) → Type 0
@@ -56,19 +59,19 @@ unfolding IsStrictlySortedBy
 others_rise before labels h = h.1
 
 -- labels that are not empty come behind nothing
-all_some : (rows : List Row) → All (λ (row : Row). IsLabel row.label) rows → AllBehind [] (labels_of rows)
-all_some [] h = tt
-all_some (r ∷ rs) h =
-    let label : IsLabel r.label = All-first (λ (row : Row). IsLabel row.label) r rs h in
-    (some_label r.label label.some, all_some rs (All-rest (λ (row : Row). IsLabel row.label) r rs h))
+all_some : {R : Type 0} (label_of : R → List ℕ) (rows : List R) → All (λ (row : R). IsLabel (label_of row)) rows → AllBehind [] (map label_of rows)
+all_some label_of [] h = tt
+all_some {R} label_of (r ∷ rs) h =
+    let label : IsLabel (label_of r) = All-first (λ (row : R). IsLabel (label_of row)) r rs h in
+    (some_label (label_of r) label.some, all_some label_of rs (All-rest (λ (row : R). IsLabel (label_of row)) r rs h))
   where
     some_label : (label : List ℕ) → 1 ≤ length label → slice_cmp nat_cmp [] label ≡ Less
     some_label [] some = absurd (omega arith)
     some_label (b ∷ bs) some = refl
 
-rise_from_nothing : (rows : List Row) → All (λ (row : Row). IsLabel row.label) rows → Rise (labels_of rows) → Rise ([] ∷ labels_of rows)
+rise_from_nothing : {R : Type 0} (label_of : R → List ℕ) (rows : List R) → All (λ (row : R). IsLabel (label_of row)) rows → Rise (map label_of rows) → Rise ([] ∷ map label_of rows)
 unfolding IsStrictlySortedBy
-rise_from_nothing rows labels h = (all_some rows labels, h)
+rise_from_nothing label_of rows labels h = (all_some label_of rows labels, h)
 
 -- ---- one row
 
@@ -88,137 +91,213 @@ kind_again : (kind : Kind) → kind_of (kind_byte kind) ≡ Some kind
 kind_again kinds.File = refl
 kind_again kinds.Dir = refl
 
-abbrev RowRead : Type 0
-RowRead = Row × (List ℕ × List ℕ)
+-- a row was taken from the front
+pub record TakesRow {R : Type 0} (text_of label_of : R → List ℕ) (fits : R → Type 0) (before text : List ℕ) (x : R × (List ℕ × List ℕ)) : Type 0 where
+  pub takes : Takes text (text_of x.0) x.1.1
+  pub fit : fits x.0
+  pub behind : IsBefore before (label_of x.0)
+  pub last : x.1.0 ≡ label_of x.0
 
-abbrev with_name : List ℕ → Kind → List ℕ → Name × List ℕ → Option RowRead
-with_name before kind label name = given_if (label_if before label) (record { kind = kind; label = label; name = name.0 }, (label, name.1))
+-- rows of one kind that are read are spelled so, and what is spelled so is read again
+pub record IsRowGrammar {R : Type 0} (one : RowReader R) (text_of label_of : R → List ℕ) (fits : R → Type 0) : Type 0 where
+  pub takes : (before text : List ℕ) (x : R × (List ℕ × List ℕ)) → IsBytes text → one (before, text) ≡ Some x → TakesRow text_of label_of fits before text x
+  pub again : (before : List ℕ) (row : R) (rest : List ℕ) → fits row → IsBefore before (label_of row) → one (before, text_of row ++ rest) ≡ Some (row, (label_of row, rest))
+  pub label : (row : R) → fits row → IsLabel (label_of row)
 
-abbrev with_label : List ℕ → Kind → List ℕ × List ℕ → Option RowRead
-with_label before kind label = name_at label.1 >>= with_name before kind label.0
+-- ---- the front of a row
 
-abbrev with_count : List ℕ → Kind → ℕ × List ℕ → Option RowRead
+record TakesFront (before text : List ℕ) (x : (Kind × List ℕ) × List ℕ) : Type 0 where
+  takes : Takes text (front_text x.0.0 x.0.1) x.1
+  label : IsLabel x.0.1
+  behind : IsBefore before x.0.1
+
+abbrev with_label : List ℕ → Kind → List ℕ × List ℕ → Field (Kind × List ℕ)
+with_label before kind label = given_if (label_if before label.0) ((kind, label.0), label.1)
+
+abbrev with_count : List ℕ → Kind → ℕ × List ℕ → Field (Kind × List ℕ)
 with_count before kind count = bytes_at count.0 count.1 >>= with_label before kind
 
-abbrev with_kind : List ℕ → List ℕ → Kind → Option RowRead
+abbrev with_kind : List ℕ → List ℕ → Kind → Field (Kind × List ℕ)
 with_kind before rest kind = byte_at rest >>= with_count before kind
 
--- a row was taken from the front
-record TakesRow (before text : List ℕ) (x : RowRead) : Type 0 where
-  takes : Takes text (row_text x.0) x.1.1
-  label : IsLabel x.0.label
-  name : length x.0.name.0 ≡ 32
-  behind : IsBefore before x.0.label
-  last : x.1.0 ≡ x.0.label
+abbrev pieces : ℕ → ℕ → List ℕ → List ℕ
+pieces kind count label = kind ∷ count ∷ [] ++ label
 
-abbrev pieces : ℕ → ℕ → List ℕ → List ℕ → List ℕ
-pieces kind count label name = kind ∷ count ∷ [] ++ label ++ name
-
-row_takes : (before text : List ℕ) (x : RowRead) → IsBytes text → row_at (before, text) ≡ Some x → TakesRow before text x
-unfolding row_at
-row_takes before text x fits e =
+front_takes : FieldsSpelled → (before text : List ℕ) (x : (Kind × List ℕ) × List ℕ) → IsBytes text → front_at before text ≡ Some x → TakesFront before text x
+unfolding front_at
+front_takes law before text x fits e =
     let b = bind_some (byte_at text) (λ byte. kind_of byte.0 >>= with_kind before byte.1) x e in
     let k = bind_some (kind_of b.0.0) (with_kind before b.0.1) x b.2 in
     let c = bind_some (byte_at b.0.1) (with_count before k.0) x k.2 in
     let l = bind_some (bytes_at c.0.0 c.0.1) (with_label before k.0) x c.2 in
-    let n = bind_some (name_at l.0.1) (with_name before k.0 l.0.0) x l.2 in
-    let made : RowRead = (record { kind = k.0; label = l.0.0; name = n.0.0 }, (l.0.0, n.0.1)) in
-    let g = given_is (label_if before l.0.0) made x n.2 in
+    let made : (Kind × List ℕ) × List ℕ = ((k.0, l.0.0), l.0.1) in
+    let g = given_is (label_if before l.0.0) made x l.2 in
     let tests = both (is_label l.0.0) (is_lt (slice_cmp nat_cmp before l.0.0)) g.0 in
-    let t0 = byte_takes text b.0 fits b.1 in
-    let t1 = byte_takes b.0.1 c.0 t0.bytes c.1 in
-    let t2 = bytes_take c.0.0 c.0.1 l.0 t1.bytes l.1 in
-    let t3 = name_takes l.0.1 n.0 t2.0.bytes n.1 in
+    let t0 = law.byte text b.0 fits b.1 in
+    let t1 = law.byte b.0.1 c.0 t0.bytes c.1 in
+    let t2 = law.bytes c.0.0 c.0.1 l.0 t1.bytes l.1 in
     let e1 = Takes-then text (b.0.0 ∷ []) b.0.1 (c.0.0 ∷ []) c.0.1 t0 t1 in
-    let e2 = Takes-then text (b.0.0 ∷ c.0.0 ∷ []) c.0.1 l.0.0 l.0.1 e1 t2.0 in
-    let e3 : Takes text (pieces b.0.0 c.0.0 l.0.0 n.0.0.0) n.0.1 = Takes-then text (b.0.0 ∷ c.0.0 ∷ [] ++ l.0.0) l.0.1 n.0.0.0 n.0.1 e2 t3.0 in
+    let e2 : Takes text (pieces b.0.0 c.0.0 l.0.0) l.0.1 = Takes-then text (b.0.0 ∷ c.0.0 ∷ []) c.0.1 l.0.0 l.0.1 e1 t2.0 in
     let kind : b.0.0 ≡ kind_byte k.0 = kind_is b.0.0 k.0 k.1 in
     let count : c.0.0 ≡ length l.0.0 = sym t2.1 in
-    let spelled : pieces b.0.0 c.0.0 l.0.0 n.0.0.0 ≡ row_text made.0 = (λ i. pieces (kind i) (count i) l.0.0 n.0.0.0) in
-    subst (TakesRow before text) g.1
-    (record { takes = subst (λ (t : List ℕ). Takes text t n.0.1) spelled e3; label = label_passes l.0.0 tests.0; name = t3.1; behind = is_less _ tests.1; last = refl })
+    let spelled : pieces b.0.0 c.0.0 l.0.0 ≡ front_text k.0 l.0.0 = (λ i. pieces (kind i) (count i) l.0.0) in
+    subst (TakesFront before text) g.1
+    (record { takes = subst (λ (t : List ℕ). Takes text t l.0.1) spelled e2; label = label_passes l.0.0 tests.0; behind = is_less _ tests.1 })
 
-row_again : (before : List ℕ) (row : Row) (rest : List ℕ) → IsLabel row.label → length row.name.0 ≡ 32 → IsBefore before row.label → row_at (before, row_text row ++ rest) ≡ Some (row, (row.label, rest))
+front_again : FieldsRead → (before : List ℕ) (kind : Kind) (label rest : List ℕ) → IsLabel label → IsBefore before label → front_at before (front_text kind label ++ rest) ≡ Some ((kind, label), rest)
+unfolding front_at
+front_again law before kind label rest is behind =
+    let test : label_if before label ≡ true = rw (label_keeps label is, behind) refl in
+    rw (kind_again kind, law.bytes label rest, test) refl
+
+-- ---- a row of format 1
+
+pub record RowFits (row : Row) : Type 0 where
+  pub label : IsLabel row.label
+  pub name : length row.name.0 ≡ 32
+
+abbrev named_row : Kind → List ℕ → Name × List ℕ → Option (Row × (List ℕ × List ℕ))
+named_row kind label name = Some (record { kind = kind; label = label; name = name.0 }, (label, name.1))
+
+row_takes : FieldsSpelled → (before text : List ℕ) (x : Row × (List ℕ × List ℕ)) → IsBytes text → row_at (before, text) ≡ Some x → TakesRow row_text (λ (row : Row). row.label) RowFits before text x
 unfolding row_at
-row_again before row rest label name behind =
-    let after = row.name.0 ++ rest in
-    let regrouped : row_text row ++ rest ≡ kind_byte row.kind ∷ length row.label ∷ (row.label ++ after) = simp append_assoc in
-    let test : label_if before row.label ≡ true = rw (label_keeps row.label label, behind) refl in
-    ap (λ (t : List ℕ). row_at (before, t)) regrouped ∙ rw (kind_again row.kind, bytes_again (length row.label) row.label after refl, name_again row.name rest name, test) refl
+row_takes law before text x fits e =
+    let f = bind_some (front_at before text) (λ front. name_at front.1 >>= named_row front.0.0 front.0.1) x e in
+    let n = bind_some (name_at f.0.1) (named_row f.0.0.0 f.0.0.1) x f.2 in
+    let front = front_takes law before text f.0 fits f.1 in
+    let name = law.name f.0.1 n.0 front.takes.bytes n.1 in
+    let made : Row × (List ℕ × List ℕ) = (record { kind = f.0.0.0; label = f.0.0.1; name = n.0.0 }, (f.0.0.1, n.0.1)) in
+    subst (TakesRow row_text (λ (row : Row). row.label) RowFits before text) (some_is made x n.2)
+    (record {
+      takes = Takes-then text (front_text f.0.0.0 f.0.0.1) f.0.1 n.0.0.0 n.0.1 front.takes name.0;
+      fit = record { label = front.label; name = name.1 };
+      behind = front.behind;
+      last = refl;
+    })
+
+row_again : FieldsRead → (before : List ℕ) (row : Row) (rest : List ℕ) → RowFits row → IsBefore before row.label → row_at (before, row_text row ++ rest) ≡ Some (row, (row.label, rest))
+unfolding row_at
+row_again law before row rest fit behind =
+    let regrouped : row_text row ++ rest ≡ front_text row.kind row.label ++ (row.name.0 ++ rest) = append_assoc (front_text row.kind row.label) row.name.0 rest in
+    ap (λ (t : List ℕ). row_at (before, t)) regrouped ∙ rw (front_again law before row.kind row.label (row.name.0 ++ rest) fit.label behind, law.name row.name rest fit.name) refl
+
+pub row_grammar : FieldsSpelled → FieldsRead → IsRowGrammar row_at row_text (λ (row : Row). row.label) RowFits
+row_grammar law read = record { takes = row_takes law; again = row_again read; label = λ row fit. fit.label }
+
+-- ---- a row of format 2
+
+pub record SizedRowFits (row : SizedRow) : Type 0 where
+  pub label : IsLabel row.label
+  pub size : row.size < 2 ^ 64
+  pub name : length row.name.0 ≡ 32
+
+abbrev named_sized_row : Kind → List ℕ → ℕ → Name × List ℕ → Option (SizedRow × (List ℕ × List ℕ))
+named_sized_row kind label size name = Some (record { kind = kind; label = label; size = size; name = name.0 }, (label, name.1))
+
+abbrev sized_row : Kind → List ℕ → ℕ × List ℕ → Option (SizedRow × (List ℕ × List ℕ))
+sized_row kind label size = name_at size.1 >>= named_sized_row kind label size.0
+
+sized_row_takes : FieldsSpelled → (before text : List ℕ) (x : SizedRow × (List ℕ × List ℕ)) → IsBytes text → sized_row_at (before, text) ≡ Some x → TakesRow sized_row_text (λ (row : SizedRow). row.label) SizedRowFits before text x
+unfolding sized_row_at
+sized_row_takes law before text x fits e =
+    let f = bind_some (front_at before text) (λ front. number_at w64 front.1 >>= sized_row front.0.0 front.0.1) x e in
+    let s = bind_some (number_at w64 f.0.1) (sized_row f.0.0.0 f.0.0.1) x f.2 in
+    let n = bind_some (name_at s.0.1) (named_sized_row f.0.0.0 f.0.0.1 s.0.0) x s.2 in
+    let front = front_takes law before text f.0 fits f.1 in
+    let size = law.eight f.0.1 s.0 front.takes.bytes s.1 in
+    let name = law.name s.0.1 n.0 size.0.bytes n.1 in
+    let made : SizedRow × (List ℕ × List ℕ) = (record { kind = f.0.0.0; label = f.0.0.1; size = s.0.0; name = n.0.0 }, (f.0.0.1, n.0.1)) in
+    subst (TakesRow sized_row_text (λ (row : SizedRow). row.label) SizedRowFits before text) (some_is made x n.2)
+    (record {
+      takes = Takes-then text (front_text f.0.0.0 f.0.0.1 ++ to_be_bytes w64 s.0.0) s.0.1 n.0.0.0 n.0.1 (Takes-then text (front_text f.0.0.0 f.0.0.1) f.0.1 (to_be_bytes w64 s.0.0) s.0.1 front.takes size.0) name.0;
+      fit = record { label = front.label; size = size.1; name = name.1 };
+      behind = front.behind;
+      last = refl;
+    })
+
+sized_row_again : FieldsRead → (before : List ℕ) (row : SizedRow) (rest : List ℕ) → SizedRowFits row → IsBefore before row.label → sized_row_at (before, sized_row_text row ++ rest) ≡ Some (row, (row.label, rest))
+unfolding sized_row_at
+sized_row_again law before row rest fit behind =
+    let after = to_be_bytes w64 row.size ++ (row.name.0 ++ rest) in
+    let regrouped : sized_row_text row ++ rest ≡ front_text row.kind row.label ++ after =
+    append_assoc (front_text row.kind row.label ++ to_be_bytes w64 row.size) row.name.0 rest
+    ∙ append_assoc (front_text row.kind row.label) (to_be_bytes w64 row.size) (row.name.0 ++ rest) in
+    ap (λ (t : List ℕ). sized_row_at (before, t)) regrouped
+    ∙ rw (front_again law before row.kind row.label after fit.label behind, law.eight row.size (row.name.0 ++ rest) fit.size, law.name row.name rest fit.name) refl
+
+pub sized_row_grammar : FieldsSpelled → FieldsRead → IsRowGrammar sized_row_at sized_row_text (λ (row : SizedRow). row.label) SizedRowFits
+sized_row_grammar law read = record { takes = sized_row_takes law; again = sized_row_again read; label = λ row fit. fit.label }
 
 -- ---- rows
 
-abbrev pub RowsRead : Type 0
-RowsRead = List Row × (List ℕ × List ℕ)
-
-pub record TakesRows (count : ℕ) (before text : List ℕ) (x : RowsRead) : Type 0 where
-  pub takes : Takes text (flat_map row_text x.0) x.1.1
+pub record TakesRows {R : Type 0} (text_of label_of : R → List ℕ) (fits : R → Type 0) (count : ℕ) (before text : List ℕ) (x : List R × (List ℕ × List ℕ)) : Type 0 where
+  pub takes : Takes text (flat_map text_of x.0) x.1.1
   pub all : length x.0 ≡ count
-  pub labels : All (λ (row : Row). IsLabel row.label) x.0
-  pub names : AreNames (names_of x.0)
-  pub rise : IsStrictlySortedBy (slice_cmp nat_cmp) (before ∷ labels_of x.0)
+  pub fit : All fits x.0
+  pub rise : Rise (before ∷ map label_of x.0)
 
-pub rows_take : (count : ℕ) (before text : List ℕ) (x : RowsRead) → IsBytes text → many_at row_at count (before, text) ≡ Some x → TakesRows count before text x
+pub rows_take : {R : Type 0} (one : RowReader R) (text_of label_of : R → List ℕ) (fits : R → Type 0) → IsRowGrammar one text_of label_of fits → (count : ℕ) (before text : List ℕ) (x : List R × (List ℕ × List ℕ)) → IsBytes text
+    → many_at one count (before, text) ≡ Some x → TakesRows text_of label_of fits count before text x
 unfolding many_at
-rows_take zero before text x fits e =
-    subst (TakesRows zero before text) (some_is ([], (before, text)) x e)
-    (record { takes = record { parts = refl; bytes = fits }; all = refl; labels = λ k d lt. absurd (omega arith); names = λ k d lt. absurd (omega arith); rise = rise_alone before })
-rows_take (suc n) before text x fits e =
-    let a = bind_some (row_at (before, text)) (λ first. many_at row_at n first.1 >>= λ others. Some (first.0 ∷ others.0, others.1)) x e in
-    let b = bind_some (many_at row_at n a.0.1) (λ others. Some (a.0.0 ∷ others.0, others.1)) x a.2 in
-    let first = row_takes before text a.0 fits a.1 in
-    let others = rows_take n a.0.1.0 a.0.1.1 b.0 first.takes.bytes b.1 in
-    let made : RowsRead = (a.0.0 ∷ b.0.0, b.0.1) in
-    let whole = Takes-then text (row_text a.0.0) a.0.1.1 (flat_map row_text b.0.0) b.0.1.1 first.takes others.takes in
-    let rise = subst (λ (l : List ℕ). IsStrictlySortedBy (slice_cmp nat_cmp) (l ∷ labels_of b.0.0)) first.last others.rise in
-    subst (TakesRows (suc n) before text) (some_is made x b.2)
+rows_take one text_of label_of fits g zero before text x bytes e =
+    subst (TakesRows text_of label_of fits zero before text) (some_is ([], (before, text)) x e)
+    (record { takes = record { parts = refl; bytes = bytes }; all = refl; fit = λ k d lt. absurd (omega arith); rise = rise_alone before })
+rows_take {R} one text_of label_of fits g (suc n) before text x bytes e =
+    let a = bind_some (one (before, text)) (λ first. many_at one n first.1 >>= λ others. Some (first.0 ∷ others.0, others.1)) x e in
+    let b = bind_some (many_at one n a.0.1) (λ others. Some (a.0.0 ∷ others.0, others.1)) x a.2 in
+    let first = g.takes before text a.0 bytes a.1 in
+    let others = rows_take one text_of label_of fits g n a.0.1.0 a.0.1.1 b.0 first.takes.bytes b.1 in
+    let made : List R × (List ℕ × List ℕ) = (a.0.0 ∷ b.0.0, b.0.1) in
+    let whole = Takes-then text (text_of a.0.0) a.0.1.1 (flat_map text_of b.0.0) b.0.1.1 first.takes others.takes in
+    let rise = subst (λ (l : List ℕ). Rise (l ∷ map label_of b.0.0)) first.last others.rise in
+    subst (TakesRows text_of label_of fits (suc n) before text) (some_is made x b.2)
     (record {
       takes = rw flat_map-cons whole;
       all = ap suc others.all;
-      labels = All-cons (λ (row : Row). IsLabel row.label) a.0.0 b.0.0 first.label others.labels;
-      names = All-cons (λ (name : Name). length name.0 ≡ 32) a.0.0.name (names_of b.0.0) first.name others.names;
-      rise = rise_behind before a.0.0.label (labels_of b.0.0) first.behind rise;
+      fit = All-cons fits a.0.0 b.0.0 first.fit others.fit;
+      rise = rise_behind before (label_of a.0.0) (map label_of b.0.0) first.behind rise;
     })
 
 -- the label of the last row
-last_label : List ℕ → List Row → List ℕ
-last_label before [] = before
-last_label before (r ∷ rs) = last_label r.label rs
+last_label : {R : Type 0} → (R → List ℕ) → List ℕ → List R → List ℕ
+last_label label_of before [] = before
+last_label label_of before (r ∷ rs) = last_label label_of (label_of r) rs
 
-rows_again : (before : List ℕ) (rows : List Row) (rest : List ℕ) → All (λ (row : Row). IsLabel row.label) rows → AreNames (names_of rows) → Rise (before ∷ labels_of rows)
-    → many_at row_at (length rows) (before, flat_map row_text rows ++ rest) ≡ Some (rows, (last_label before rows, rest))
+rows_again : {R : Type 0} (one : RowReader R) (text_of label_of : R → List ℕ) (fits : R → Type 0) → IsRowGrammar one text_of label_of fits → (before : List ℕ) (rows : List R) (rest : List ℕ) → All fits rows → Rise (before ∷ map label_of rows)
+    → many_at one (length rows) (before, flat_map text_of rows ++ rest) ≡ Some (rows, (last_label label_of before rows, rest))
 unfolding many_at last_label
-rows_again before [] rest labels names rise = refl
-rows_again before (r ∷ rs) rest labels names rise =
-    let others = flat_map row_text rs ++ rest in
-    let regrouped : flat_map row_text (r ∷ rs) ++ rest ≡ row_text r ++ others = ap (λ (x : List ℕ). x ++ rest) (flat_map-cons row_text r rs) ∙ append_assoc (row_text r) (flat_map row_text rs) rest in
-    let is_row = λ (row : Row). IsLabel row.label in
-    let is_name = λ (name : Name). length name.0 ≡ 32 in
-    let one : row_at (before, row_text r ++ others) ≡ Some (r, (r.label, others)) = row_again before r others (All-first is_row r rs labels) (All-first is_name r.name (names_of rs) names) (first_behind before r.label (labels_of rs) rise) in
-    let more : many_at row_at (length rs) (r.label, others) ≡ Some (rs, (last_label r.label rs, rest)) = rows_again r.label rs rest (All-rest is_row r rs labels) (All-rest is_name r.name (names_of rs) names) (others_rise before (r.label ∷ labels_of rs) rise) in
-    ap (λ (t : List ℕ). many_at row_at (suc (length rs)) (before, t)) regrouped ∙ rw (one, more) refl
+rows_again one text_of label_of fits g before [] rest fit rise = refl
+rows_again {R} one text_of label_of fits g before (r ∷ rs) rest fit rise =
+    let others = flat_map text_of rs ++ rest in
+    let regrouped : flat_map text_of (r ∷ rs) ++ rest ≡ text_of r ++ others = ap (λ (x : List ℕ). x ++ rest) (flat_map-cons text_of r rs) ∙ append_assoc (text_of r) (flat_map text_of rs) rest in
+    let one_row : one (before, text_of r ++ others) ≡ Some (r, (label_of r, others)) = g.again before r others (All-first fits r rs fit) (first_behind before (label_of r) (map label_of rs) rise) in
+    let more : many_at one (length rs) (label_of r, others) ≡ Some (rs, (last_label label_of (label_of r) rs, rest)) =
+    rows_again one text_of label_of fits g (label_of r) rs rest (All-rest fits r rs fit) (others_rise before (label_of r ∷ map label_of rs) rise) in
+    ap (λ (t : List ℕ). many_at one (suc (length rs)) (before, t)) regrouped ∙ rw (one_row, more) refl
 
 -- ---- all rows of a directory
 
-pub record AreRead (count : ℕ) (text : List ℕ) (rows : List Row) : Type 0 where
-  pub spelled : text ≡ flat_map row_text rows
+pub record AreRead {R : Type 0} (text_of label_of : R → List ℕ) (fits : R → Type 0) (count : ℕ) (text : List ℕ) (rows : List R) : Type 0 where
+  pub spelled : text ≡ flat_map text_of rows
   pub all : length rows ≡ count
-  pub labels : All (λ (row : Row). IsLabel row.label) rows
-  pub names : AreNames (names_of rows)
-  pub rise : IsStrictlySortedBy (slice_cmp nat_cmp) (labels_of rows)
+  pub fit : All fits rows
+  pub rise : Rise (map label_of rows)
 
-pub rows_are_read : (count : ℕ) (text : List ℕ) (rows : List Row) → IsBytes text → rows_at count text ≡ Some rows → AreRead count text rows
+pub rows_are_read : {R : Type 0} (one : RowReader R) (text_of label_of : R → List ℕ) (fits : R → Type 0) → IsRowGrammar one text_of label_of fits → (count : ℕ) (text : List ℕ) (rows : List R) → IsBytes text
+    → rows_at one count text ≡ Some rows → AreRead text_of label_of fits count text rows
 unfolding rows_at
-rows_are_read count text rows fits e =
-    let r = bind_some (many_at row_at count ([], text)) (λ x. at_end (x.0, x.1.1)) rows e in
-    let h = rows_take count [] text r.0 fits r.1 in
+rows_are_read one text_of label_of fits g count text rows bytes e =
+    let r = bind_some (many_at one count ([], text)) (λ x. at_end (x.0, x.1.1)) rows e in
+    let h = rows_take one text_of label_of fits g count [] text r.0 bytes r.1 in
     let k = ended (r.0.0, r.0.1.1) rows r.2 in
-    subst (AreRead count text) k.0
-    (record { spelled = Takes-all text (flat_map row_text r.0.0) r.0.1.1 h.takes k.1; all = h.all; labels = h.labels; names = h.names; rise = others_rise [] (labels_of r.0.0) h.rise })
+    subst (AreRead text_of label_of fits count text) k.0
+    (record { spelled = Takes-all text (flat_map text_of r.0.0) r.0.1.1 h.takes k.1; all = h.all; fit = h.fit; rise = others_rise [] (map label_of r.0.0) h.rise })
 
-pub rows_are_read_again : (rows : List Row) → IsDir rows → AreNames (names_of rows) → rows_at (length rows) (flat_map row_text rows) ≡ Some rows
+pub rows_are_read_again : {R : Type 0} (one : RowReader R) (text_of label_of : R → List ℕ) (fits : R → Type 0) → IsRowGrammar one text_of label_of fits → (rows : List R) → All fits rows → Rise (map label_of rows)
+    → rows_at one (length rows) (flat_map text_of rows) ≡ Some rows
 unfolding rows_at
-rows_are_read_again rows dir names =
-    let read : many_at row_at (length rows) ([], flat_map row_text rows ++ []) ≡ Some (rows, (last_label [] rows, [])) = rows_again [] rows [] dir.labels names (rise_from_nothing rows dir.labels dir.rising) in
-    let whole : many_at row_at (length rows) ([], flat_map row_text rows) ≡ Some (rows, (last_label [] rows, [])) = ap (λ (t : List ℕ). many_at row_at (length rows) ([], t)) (sym (append-nil (flat_map row_text rows))) ∙ read in
+rows_are_read_again one text_of label_of fits g rows fit rising =
+    let read : many_at one (length rows) ([], flat_map text_of rows ++ []) ≡ Some (rows, (last_label label_of [] rows, [])) =
+    rows_again one text_of label_of fits g [] rows [] fit (rise_from_nothing label_of rows (λ k d lt. g.label (get_or rows k d) (fit k d lt)) rising) in
+    let whole : many_at one (length rows) ([], flat_map text_of rows) ≡ Some (rows, (last_label label_of [] rows, [])) = ap (λ (t : List ℕ). many_at one (length rows) ([], t)) (sym (append-nil (flat_map text_of rows))) ∙ read in
     rw whole refl

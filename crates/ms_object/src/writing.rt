@@ -1,34 +1,59 @@
 //! Writing objects at the end of a text: `docs/FORMATS.md`, objects.
 
-ghost use Rattle.std.specs.Prelude.{◌≡◌, ◌≤◌, ◌∷◌, [], ◌++◌, OnOk, OnErr, length, flat_map, take};
-ghost use Rattle.std.specs.Int.{w32, w64, to_be_bytes};
+ghost use Rattle.std.specs.Prelude.{◌≡◌, ◌≤◌, ◌<◌, ◌^◌, ◌∷◌, [], ◌++◌, OnOk, OnErr, length, flat_map, take};
+ghost use Rattle.ms_base.specs.Fields.{Grows};
+ghost use Rattle.ms_object.specs.declared.format.Format.TheVariants as formats;
 ghost use Rattle.ms_object.specs.declared.object.Object.TheVariants as objects;
-ghost use Rattle.ms_object.specs.Objects.{AreNames, IsObject, IsDir, IsFile, IsVersion, blob_size, names_of, names_text, object_text, row_text};
-ghost use Rattle.ms_object.specs.Writing.{Grows};
+ghost use Rattle.ms_object.specs.Objects.{AreNames, AreSizes, IsBlob, IsObject, IsDir, IsFile, IsSizedDir, IsVersion, blob_tag, blob_text, file_tag, file_text, front_text, names_of, names_text, object_text, row_text, sized_names_of, sized_row_text, version_tag, version_text};
 
-use crate::object::{Kind, Row, Rows};
+use crate::format::Format;
+use crate::object::{Kind, Row, Rows, SizedRow, SizedRows};
+use ms_base::fields::{push_bytes, push_name, push_u8, push_u32, push_u64};
 use ms_base::{ClientId, Name, NoMemory};
 
 /// Puts the object of these bytes, at most 65,536, at the end of `out`.
 pub fn write_blob(text: &[u8], out: &mut Vec<u8>) -> Result<(), NoMemory>
-    requires { length text.now ≤ blob_size }
+    requires { IsBlob formats.One text.now }
     ensures ok { OnOk result (out.new.items ≡ out.old.items ++ object_text (objects.Blob text.now)) }
     ensures err { OnErr result (out.new.items ≡ out.old.items) }
 {
     let start = out.len();
-    let written = push_blob(text, out);
+    let written = push_blob(Format::One, text, out);
+    cut_unless(written, start, out)
+}
+
+/// Puts the object of format 2 of these bytes, 1 to 1,048,576, at the end of `out`.
+pub fn write_blob2(text: &[u8], out: &mut Vec<u8>) -> Result<(), NoMemory>
+    requires { IsBlob formats.Two text.now }
+    ensures ok { OnOk result (out.new.items ≡ out.old.items ++ object_text (objects.Blob2 text.now)) }
+    ensures err { OnErr result (out.new.items ≡ out.old.items) }
+{
+    let start = out.len();
+    let written = push_blob(Format::Two, text, out);
     cut_unless(written, start, out)
 }
 
 /// Puts the object of a file of this size and these blobs at the end of `out`.
 pub fn write_file(size: u64, blobs: &[Name], out: &mut Vec<u8>) -> Result<(), NoMemory>
-    requires { IsFile size blobs.now }
+    requires { IsFile formats.One size blobs.now }
     ensures object { OnOk result (IsObject (objects.File size blobs.now)) }
     ensures ok { OnOk result (out.new.items ≡ out.old.items ++ object_text (objects.File size blobs.now)) }
     ensures err { OnErr result (out.new.items ≡ out.old.items) }
 {
     let start = out.len();
-    let written = push_file(size, blobs, out);
+    let written = push_file(Format::One, size, blobs, out);
+    cut_unless(written, start, out)
+}
+
+/// Puts the object of format 2 of a file of this size and these blobs at the end of `out`.
+pub fn write_file2(size: u64, blobs: &[Name], out: &mut Vec<u8>) -> Result<(), NoMemory>
+    requires { IsFile formats.Two size blobs.now }
+    ensures object { OnOk result (IsObject (objects.File2 size blobs.now)) }
+    ensures ok { OnOk result (out.new.items ≡ out.old.items ++ object_text (objects.File2 size blobs.now)) }
+    ensures err { OnErr result (out.new.items ≡ out.old.items) }
+{
+    let start = out.len();
+    let written = push_file(Format::Two, size, blobs, out);
     cut_unless(written, start, out)
 }
 
@@ -41,6 +66,18 @@ pub fn write_dir(rows: &Rows, out: &mut Vec<u8>) -> Result<(), NoMemory>
 {
     let start = out.len();
     let written = push_dir(rows.as_slice(), out);
+    cut_unless(written, start, out)
+}
+
+/// Puts the object of format 2 of a directory of these rows at the end of `out`.
+pub fn write_dir2(rows: &SizedRows, out: &mut Vec<u8>) -> Result<(), NoMemory>
+    requires { IsSizedDir rows.now }
+    ensures object { OnOk result (IsObject (objects.Dir2 rows.now)) }
+    ensures ok { OnOk result (out.new.items ≡ out.old.items ++ object_text (objects.Dir2 rows.now)) }
+    ensures err { OnErr result (out.new.items ≡ out.old.items) }
+{
+    let start = out.len();
+    let written = push_dir2(rows.as_slice(), out);
     cut_unless(written, start, out)
 }
 
@@ -58,7 +95,25 @@ pub fn write_version(
     ensures err { OnErr result (out.new.items ≡ out.old.items) }
 {
     let start = out.len();
-    let written = push_version(client, number, parents, root, out);
+    let written = push_version(Format::One, client, number, parents, root, out);
+    cut_unless(written, start, out)
+}
+
+/// Puts the object of a version of format 2 at the end of `out`.
+pub fn write_version2(
+    client: ClientId,
+    number: u32,
+    parents: &[Name],
+    root: &Name,
+    out: &mut Vec<u8>,
+) -> Result<(), NoMemory>
+    requires { IsVersion client number parents.now }
+    ensures object { OnOk result (IsObject (objects.Version2 client number parents.now root.now)) }
+    ensures ok { OnOk result (out.new.items ≡ out.old.items ++ object_text (objects.Version2 client number parents.now root.now)) }
+    ensures err { OnErr result (out.new.items ≡ out.old.items) }
+{
+    let start = out.len();
+    let written = push_version(Format::Two, client, number, parents, root, out);
     cut_unless(written, start, out)
 }
 
@@ -78,35 +133,34 @@ fn cut_unless(
     written
 }
 
-fn push_bytes(bytes: &[u8], out: &mut Vec<u8>) -> Result<(), NoMemory>
-    ensures ok { OnOk result (out.new.items ≡ out.old.items ++ bytes.now) }
+fn push_blob_tag(format: Format, out: &mut Vec<u8>) -> Result<(), NoMemory>
+    ensures ok { OnOk result (out.new.items ≡ out.old.items ++ blob_tag format ∷ []) }
     ensures grows { Grows out.old.items out.new.items }
 {
-    out.extend_from_slice(bytes)?;
-    Ok(())
+    match format {
+        Format::One => push_u8(out, b'B'),
+        Format::Two => push_u8(out, b'C'),
+    }
 }
 
-/// Puts the 32 bytes of a name at the end.
-fn push_name(name: &Name, out: &mut Vec<u8>) -> Result<(), NoMemory>
-    ensures ok { OnOk result (out.new.items ≡ out.old.items ++ name.now.0) }
+fn push_file_tag(format: Format, out: &mut Vec<u8>) -> Result<(), NoMemory>
+    ensures ok { OnOk result (out.new.items ≡ out.old.items ++ file_tag format ∷ []) }
     ensures grows { Grows out.old.items out.new.items }
-    ensures name { length name.now.0 ≡ 32 }
 {
-    push_bytes(&name.0, out)
+    match format {
+        Format::One => push_u8(out, b'F'),
+        Format::Two => push_u8(out, b'G'),
+    }
 }
 
-fn push_u32(number: u32, out: &mut Vec<u8>) -> Result<(), NoMemory>
-    ensures ok { OnOk result (out.new.items ≡ out.old.items ++ to_be_bytes w32 number) }
+fn push_version_tag(format: Format, out: &mut Vec<u8>) -> Result<(), NoMemory>
+    ensures ok { OnOk result (out.new.items ≡ out.old.items ++ version_tag format ∷ []) }
     ensures grows { Grows out.old.items out.new.items }
 {
-    push_bytes(&number.to_be_bytes(), out)
-}
-
-fn push_u64(number: u64, out: &mut Vec<u8>) -> Result<(), NoMemory>
-    ensures ok { OnOk result (out.new.items ≡ out.old.items ++ to_be_bytes w64 number) }
-    ensures grows { Grows out.old.items out.new.items }
-{
-    push_bytes(&number.to_be_bytes(), out)
+    match format {
+        Format::One => push_u8(out, b'V'),
+        Format::Two => push_u8(out, b'W'),
+    }
 }
 
 fn push_names(names: &[Name], out: &mut Vec<u8>) -> Result<(), NoMemory>
@@ -115,29 +169,48 @@ fn push_names(names: &[Name], out: &mut Vec<u8>) -> Result<(), NoMemory>
     ensures names { OnOk result (AreNames names.now) }
 {
     for name in names {
-        push_name(name, out)?;
+        push_name(out, name)?;
     }
     Ok(())
 }
 
-fn push_blob(text: &[u8], out: &mut Vec<u8>) -> Result<(), NoMemory>
-    ensures ok { OnOk result (out.new.items ≡ out.old.items ++ object_text (objects.Blob text.now)) }
+fn push_blob(format: Format, text: &[u8], out: &mut Vec<u8>) -> Result<(), NoMemory>
+    ensures ok { OnOk result (out.new.items ≡ out.old.items ++ blob_text format text.now) }
     ensures grows { Grows out.old.items out.new.items }
 {
-    push_bytes(b"B", out)?;
-    push_bytes(text, out)
+    push_blob_tag(format, out)?;
+    push_bytes(out, text)
 }
 
-fn push_file(size: u64, blobs: &[Name], out: &mut Vec<u8>) -> Result<(), NoMemory>
-    requires { IsFile size blobs.now }
-    ensures ok { OnOk result (out.new.items ≡ out.old.items ++ object_text (objects.File size blobs.now)) }
+fn push_file(
+    format: Format,
+    size: u64,
+    blobs: &[Name],
+    out: &mut Vec<u8>,
+) -> Result<(), NoMemory>
+    requires { IsFile format size blobs.now }
+    ensures ok { OnOk result (out.new.items ≡ out.old.items ++ file_text format size blobs.now) }
     ensures grows { Grows out.old.items out.new.items }
-    ensures object { OnOk result (IsObject (objects.File size blobs.now)) }
+    ensures names { OnOk result (AreNames blobs.now) }
 {
-    push_bytes(b"F", out)?;
-    push_u64(size, out)?;
-    push_u32(blobs.len() as u32, out)?;
+    push_file_tag(format, out)?;
+    push_u64(out, size)?;
+    push_u32(out, blobs.len() as u32)?;
     push_names(blobs, out)
+}
+
+/// Kind, length of the label, label.
+fn push_front(kind: Kind, label: &[u8], out: &mut Vec<u8>) -> Result<(), NoMemory>
+    requires { length label.now ≤ 200 }
+    ensures ok { OnOk result (out.new.items ≡ out.old.items ++ front_text kind label.now) }
+    ensures grows { Grows out.old.items out.new.items }
+{
+    let kind = match kind {
+        Kind::File => b'f',
+        Kind::Dir => b'd',
+    };
+    push_bytes(out, &[kind, label.len() as u8])?;
+    push_bytes(out, label)
 }
 
 fn push_row(row: &Row, out: &mut Vec<u8>) -> Result<(), NoMemory>
@@ -146,14 +219,20 @@ fn push_row(row: &Row, out: &mut Vec<u8>) -> Result<(), NoMemory>
     ensures grows { Grows out.old.items out.new.items }
     ensures name { OnOk result (length row.now.name.0 ≡ 32) }
 {
-    let kind = match row.kind {
-        Kind::File => b'f',
-        Kind::Dir => b'd',
-    };
-    let label = row.label.as_slice();
-    push_bytes(&[kind, label.len() as u8], out)?;
-    push_bytes(label, out)?;
-    push_name(&row.name, out)
+    push_front(row.kind, row.label.as_slice(), out)?;
+    push_name(out, &row.name)
+}
+
+fn push_sized_row(row: &SizedRow, out: &mut Vec<u8>) -> Result<(), NoMemory>
+    requires { length row.now.label ≤ 200 }
+    ensures ok { OnOk result (out.new.items ≡ out.old.items ++ sized_row_text row.now) }
+    ensures grows { Grows out.old.items out.new.items }
+    ensures fits { OnOk result ((length row.now.name.0 ≡ 32) × (row.now.size < 2 ^ 64)) }
+{
+    let size = row.size;
+    push_front(row.kind, row.label.as_slice(), out)?;
+    push_u64(out, size)?;
+    push_name(out, &row.name)
 }
 
 fn push_rows(rows: &[Row], out: &mut Vec<u8>) -> Result<(), NoMemory>
@@ -168,18 +247,42 @@ fn push_rows(rows: &[Row], out: &mut Vec<u8>) -> Result<(), NoMemory>
     Ok(())
 }
 
+fn push_sized_rows(rows: &[SizedRow], out: &mut Vec<u8>) -> Result<(), NoMemory>
+    requires { IsSizedDir rows.now }
+    ensures ok { OnOk result (out.new.items ≡ out.old.items ++ flat_map sized_row_text rows.now) }
+    ensures grows { Grows out.old.items out.new.items }
+    ensures fits { OnOk result (AreNames (sized_names_of rows.now) × AreSizes rows.now) }
+{
+    for row in rows {
+        push_sized_row(row, out)?;
+    }
+    Ok(())
+}
+
 fn push_dir(rows: &[Row], out: &mut Vec<u8>) -> Result<(), NoMemory>
     requires { IsDir rows.now }
     ensures ok { OnOk result (out.new.items ≡ out.old.items ++ object_text (objects.Dir rows.now)) }
     ensures grows { Grows out.old.items out.new.items }
     ensures object { OnOk result (IsObject (objects.Dir rows.now)) }
 {
-    push_bytes(b"D", out)?;
-    push_u32(rows.len() as u32, out)?;
+    push_u8(out, b'D')?;
+    push_u32(out, rows.len() as u32)?;
     push_rows(rows, out)
 }
 
+fn push_dir2(rows: &[SizedRow], out: &mut Vec<u8>) -> Result<(), NoMemory>
+    requires { IsSizedDir rows.now }
+    ensures ok { OnOk result (out.new.items ≡ out.old.items ++ object_text (objects.Dir2 rows.now)) }
+    ensures grows { Grows out.old.items out.new.items }
+    ensures object { OnOk result (IsObject (objects.Dir2 rows.now)) }
+{
+    push_u8(out, b'E')?;
+    push_u32(out, rows.len() as u32)?;
+    push_sized_rows(rows, out)
+}
+
 fn push_version(
+    format: Format,
     client: ClientId,
     number: u32,
     parents: &[Name],
@@ -187,14 +290,14 @@ fn push_version(
     out: &mut Vec<u8>,
 ) -> Result<(), NoMemory>
     requires { IsVersion client number parents.now }
-    ensures ok { OnOk result (out.new.items ≡ out.old.items ++ object_text (objects.Version client number parents.now root.now)) }
+    ensures ok { OnOk result (out.new.items ≡ out.old.items ++ version_text format client number parents.now root.now) }
     ensures grows { Grows out.old.items out.new.items }
-    ensures object { OnOk result (IsObject (objects.Version client number parents.now root.now)) }
+    ensures names { OnOk result (AreNames parents.now × (length root.now.0 ≡ 32)) }
 {
-    push_bytes(b"V", out)?;
-    push_u32(client.0, out)?;
-    push_u32(number, out)?;
-    push_bytes(&[parents.len() as u8], out)?;
+    push_version_tag(format, out)?;
+    push_u32(out, client.0)?;
+    push_u32(out, number)?;
+    push_u8(out, parents.len() as u8)?;
     push_names(parents, out)?;
-    push_name(root, out)
+    push_name(out, root)
 }

@@ -1,5 +1,5 @@
 use Rattle.std.proofs.Common.{sym, arith}
-use Rattle.ms_object.specs.Fields.{name_at}
+use Rattle.ms_base.specs.Fields.{name_at}
 use Rattle.ms_object.proofs.Many.{many_on, many_stops, many_done}
 use Rattle.ms_object.proofs.reading.read_names.Goals as goal
 

@@ -1,5 +1,5 @@
 use Rattle.std.proofs.Common.{◌≡◌, ◌-◌}
-use Rattle.ms_object.specs.Fields.{name_at, many_at}
+use Rattle.ms_base.specs.Fields.{name_at, many_at}
 use Rattle.ms_object.specs.Reading.{names_at}
 use Rattle.ms_object.proofs.Many.{with_front}
 use Rattle.ms_object.proofs.reading.read_names.Given as goal

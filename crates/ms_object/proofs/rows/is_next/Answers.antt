@@ -2,7 +2,7 @@ use Rattle.std.proofs.Common.{◌≡◌, Bool, refl, ap, ◌∙◌}
 use Rattle.std.specs.Prelude.{◌&&◌}
 use Rattle.std.specs.Ordering.{is_lt, is_some_and, nat_cmp}
 use Rattle.std.specs.Cmp.Lexicographic.{slice_cmp, lists_agrees}
-use Rattle.ms_object.proofs.reading.is_next.Goals as goal
+use Rattle.ms_object.proofs.rows.is_next.Goals as goal
 
 pub returns-then-is_label : goal.returns-then-is_label
 returns-then-is_label c =

@@ -1,11 +1,11 @@
 use Rattle.std.proofs.Common.{sym, arith}
 use Rattle.ms_object.specs.Reading.{row_at}
 use Rattle.ms_object.proofs.Many.{many_on, many_stops, many_done, rows_missing, rows_read, rows_left}
-use Rattle.ms_object.proofs.reading.read_rows.Goals as goal
+use Rattle.ms_object.proofs.rows.read_rows.Goals as goal
 
 pub returns-in_default : goal.returns-in_default
 returns-in_default c =
-    rows_missing c.args.count c.args.text.now
+    rows_missing row_at c.args.count c.args.text.now
     (many_stops row_at c.loop.rows c.args.count c.loop.counter (c.loop.before.now, c.loop.rest.now) _ (omega arith) (sym c.in_default.ensures) c.loop.invariant)
 
 pub loop-preserved : goal.loop-preserved
@@ -16,10 +16,10 @@ loop-preserved c =
 
 pub returns-in-empty : goal.returns-in-empty
 returns-in-empty c =
-    rows_read c.args.count c.args.text.now c.loop.rows c.loop.before.now c.loop.rest.now
+    rows_read row_at c.args.count c.args.text.now c.loop.rows c.loop.before.now c.loop.rest.now
     (many_done row_at c.loop.rows c.args.count c.loop.counter (c.loop.before.now, c.loop.rest.now) _ (omega arith) c.loop.invariant) c.in-empty.len_below
 
 pub returns-in_default-rest : goal.returns-in_default-rest
 returns-in_default-rest c =
-    rows_left c.args.count c.args.text.now c.loop.rows c.loop.before.now c.loop.rest.now
+    rows_left row_at c.args.count c.args.text.now c.loop.rows c.loop.before.now c.loop.rest.now
     (many_done row_at c.loop.rows c.args.count c.loop.counter (c.loop.before.now, c.loop.rest.now) _ (omega arith) c.loop.invariant) c.in_default-rest.len_at_least

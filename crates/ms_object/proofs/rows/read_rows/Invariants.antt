@@ -1,8 +1,8 @@
 use Rattle.std.proofs.Common.{◌≡◌, ◌-◌, []}
-use Rattle.ms_object.specs.Fields.{many_at}
+use Rattle.ms_base.specs.Fields.{many_at}
 use Rattle.ms_object.specs.Reading.{row_at}
 use Rattle.ms_object.proofs.Many.{with_front}
-use Rattle.ms_object.proofs.reading.read_rows.Given as goal
+use Rattle.ms_object.proofs.rows.read_rows.Given as goal
 
 abbrev pub invariant-loop : goal.invariant-loop
 invariant-loop l = with_front l.rows (many_at row_at (l.count - l.counter) (l.before, l.rest)) ≡ many_at row_at l.count ([], l.text)
