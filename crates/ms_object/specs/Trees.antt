@@ -136,16 +136,16 @@ abbrev pub with_size : Format → SizedRow → List Met → List Met
 with_size format row met = met ++ size_fault format row (bytes_met met)
 
 -- what stands at a row, by its kind; `walk` goes on below a directory
-abbrev pub met_by_kind : (List ℕ → List SizedRow → List Met) → Format → Texts → List ℕ → Name → Kind → List Met
-met_by_kind walk format store path name kinds.File = met_file path (file_named format store name) ∷ []
-met_by_kind walk format store path name kinds.Dir = met_below (or_fault (object_named store name) (inner_rows_of format name)) (walk (path ++ 47 ∷ []))
+abbrev pub met_by_kind : Format → (List ℕ → List SizedRow → List Met) → Texts → List ℕ → Name → Kind → List Met
+met_by_kind format walk store path name kinds.File = met_file path (file_named format store name) ∷ []
+met_by_kind format walk store path name kinds.Dir = met_below (or_fault (object_named store name) (inner_rows_of format name)) (walk (path ++ 47 ∷ []))
 
 -- What a walk meets below the rows of a directory of a format, in their order: `before` begins each path, and paths
 -- may have so many parts more. A path of 65 parts passes the limit.
 unfoldable pub walk_rows : Format → ℕ → Texts → List ℕ → List SizedRow → List Met
 walk_rows format zero store before rows = flat_map (λ row. if_short (before ++ row.label) (Err (faults.Limit quantities.Levels 65) ∷ [])) rows
 walk_rows format (suc left) store before rows =
-    flat_map (λ row. if_short (before ++ row.label) (with_size format row (met_by_kind (walk_rows format left store) format store (before ++ row.label) row.name row.kind))) rows
+    flat_map (λ row. with_size format row (if_short (before ++ row.label) (met_by_kind format (walk_rows format left store) store (before ++ row.label) row.name row.kind))) rows
 
 -- what a walk meets below the root of that name: all that it looks at is of the root's format
 unfoldable pub walk : Texts → Name → List Met

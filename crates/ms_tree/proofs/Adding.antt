@@ -117,7 +117,7 @@ judged : FileList → List ℕ → List ℕ → Result FileList FilesError
 judged files path text =
     on_ok (on_ok (within quantities.Files (length files + 1) 100000) (λ _. within quantities.Total (total_of files + length text) 1073741824)) (λ _. Ok (with_file files path text))
 
-added_judged : (files : FileList) (path text : List ℕ) → IsFilePath path → length text ≤ 67108864 → IsFree files path → added files path text ≡ judged files path text
+added_judged : (files : FileList) (path text : List ℕ) → IsFilePath path → length text ≤ 1073741824 → IsFree files path → added files path text ≡ judged files path text
 unfolding judged
 added_judged files path text h short free =
     let more = one_more files path text (absent files path free) in
@@ -125,14 +125,14 @@ added_judged files path text h short free =
     let a : ltb 1024 (length path) ≡ false = le-ltb _ _ h.short in
     let b : ltb 200 (long_part (parts_of path)) ≡ false = le-ltb _ _ h.parts_short in
     let c : ltb 64 (length (parts_of path)) ≡ false = le-ltb _ _ h.levels in
-    let d : ltb 67108864 (length text) ≡ false = le-ltb _ _ short in
+    let d : ltb 1073741824 (length text) ≡ false = le-ltb _ _ short in
     let e : length (with_file files path text) ≡ length files + 1 = more.count in
     let f : total_of (with_file files path text) ≡ total_of files + length text = more.total in
     let g : is_clash files path ≡ false = no_clash files path free in
     rw (is, a, b, c, d, e, f, g)
 
 -- the files with one more, a file too many, or bytes too many
-added_cases : (files : FileList) (path text : List ℕ) → IsFilePath path → length text ≤ 67108864 → IsFree files path
+added_cases : (files : FileList) (path text : List ℕ) → IsFilePath path → length text ≤ 1073741824 → IsFree files path
     → ((added files path text ≡ Ok (with_file files path text)) × (length files + 1 ≤ 100000) × (total_of files + length text ≤ 1073741824))
     ⊎ (((added files path text ≡ Err (errors.Limit quantities.Files (length files + 1))) × (100000 < length files + 1))
     ⊎ ((added files path text ≡ Err (errors.Limit quantities.Total (total_of files + length text))) × (length files + 1 ≤ 100000) × (1073741824 < total_of files + length text)))
@@ -153,7 +153,7 @@ only_file : (path text : List ℕ) (file : FileText) → Contains {X = Met} (Ok 
 only_file path text file h = let one : FileText = (path, text) in let given : Met = Ok one in let q : given ≡ Ok file = only_item given (Ok file) h in let same : one ≡ file = cc in same
 
 -- the walk goes on with the file
-pub Gathers-added : (files new : FileList) (path text : List ℕ) → IsFilePath path → length text ≤ 67108864 → IsFree files path → added files path text ≡ Ok new → Gathers files new (Ok (path, text) ∷ [])
+pub Gathers-added : (files new : FileList) (path text : List ℕ) → IsFilePath path → length text ≤ 1073741824 → IsFree files path → added files path text ≡ Ok new → Gathers files new (Ok (path, text) ∷ [])
 Gathers-added files new path text h short free e =
     elim (added_cases files path text h short free) [
       | inl fine ↦
@@ -176,10 +176,11 @@ Gathers-added files new path text h short free e =
         λ h. elim ((more.found file).0 h) [ inl old ↦ inl old | inr e ↦ inr (zero, omega arith, ap (λ (f : FileText). Ok f) e) ],
         λ h. elim h [ inl old ↦ (more.found file).1 (inl old) | inr met ↦ (more.found file).1 (inr (only_file path text file met)) ],
       );
+      bytes = omega (arith, more.total);
     }
 
 -- the walk stops at the limit that the file passes
-pub StopsAt-added : (files : FileList) (path text : List ℕ) (what : Quantity) (value : ℕ) → IsFilePath path → length text ≤ 67108864 → IsFree files path → added files path text ≡ Err (errors.Limit what value)
+pub StopsAt-added : (files : FileList) (path text : List ℕ) (what : Quantity) (value : ℕ) → IsFilePath path → length text ≤ 1073741824 → IsFree files path → added files path text ≡ Err (errors.Limit what value)
     → StopsAt files (Ok (path, text) ∷ []) (faults.Limit what value)
 StopsAt-added files path text what value h short free e =
     elim (added_cases files path text h short free) [
@@ -203,7 +204,7 @@ StopsAt-added files path text what value h short free e =
         ap (λ (q : Quantity). Some (faults.Limit q n)) what ∙ ap (λ (k : ℕ). Some (faults.Limit other k)) value
 
 -- no clash comes
-pub added_apart : (files : FileList) (path text : List ℕ) → IsFilePath path → length text ≤ 67108864 → IsFree files path → added files path text ≡ Err errors.Clash → ⊥
+pub added_apart : (files : FileList) (path text : List ℕ) → IsFilePath path → length text ≤ 1073741824 → IsFree files path → added files path text ≡ Err errors.Clash → ⊥
 added_apart files path text h short free e =
     elim (added_cases files path text h short free) [
       | inl fine ↦ (let given : Result FileList FilesError = Ok (with_file files path text) in let q : given ≡ Err errors.Clash = sym fine.0 ∙ e in cc)
@@ -215,13 +216,13 @@ added_apart files path text h short free e =
 
 -- ---- the same of the file that stands under a name
 
-pub file_added : (files new : FileList) (path shown text : List ℕ) (given : Result (List ℕ) GatherError) → IsFilePath path → shown ≡ path → length text ≤ 67108864 → IsFree files path
+pub file_added : (files new : FileList) (path shown text : List ℕ) (given : Result (List ℕ) GatherError) → IsFilePath path → shown ≡ path → length text ≤ 1073741824 → IsFree files path
     → given ≡ Ok text → added files shown text ≡ Ok new → Gathers files new (met_file path given ∷ [])
 file_added files new path shown text given h same short free is e =
     subst (λ (g : Result (List ℕ) GatherError). Gathers files new (met_file path g ∷ [])) (sym is)
     (Gathers-added files new path text h short free (ap (λ (p : List ℕ). added files p text) (sym same) ∙ e))
 
-pub file_refused : (files : FileList) (path shown text : List ℕ) (given : Result (List ℕ) GatherError) (what : Quantity) (value : ℕ) → IsFilePath path → shown ≡ path → length text ≤ 67108864 → IsFree files path
+pub file_refused : (files : FileList) (path shown text : List ℕ) (given : Result (List ℕ) GatherError) (what : Quantity) (value : ℕ) → IsFilePath path → shown ≡ path → length text ≤ 1073741824 → IsFree files path
     → given ≡ Ok text → added files shown text ≡ Err (errors.Limit what value) → StopsAt files (met_file path given ∷ []) (faults.Limit what value)
 file_refused files path shown text given what value h same short free is e =
     subst (λ (g : Result (List ℕ) GatherError). StopsAt files (met_file path g ∷ []) (faults.Limit what value)) (sym is)

@@ -1,5 +1,5 @@
 -- What a walk meets in two parts, and at a single file.
-use Rattle.std.proofs.Common.{◌≡◌, ℕ, ◌+◌, ◌<◌, ◌≤◌, true, false, ltb, List, [], ◌∷◌, ◌++◌, length, take, drop, get_or, Some, Ok, sym, ap, subst, ◌∙◌, append_assoc, append-nil, inl, inr}
+use Rattle.std.proofs.Common.{◌≡◌, ℕ, ◌+◌, ◌<◌, ◌≤◌, true, false, ltb, List, [], ◌∷◌, ◌++◌, length, take, drop, get_or, Some, Ok, Err, refl, arith, sym, ap, subst, ◌∙◌, append_assoc, append-nil, inl, inr}
 use Rattle.std.specs.List.{flat_map}
 use Rattle.std.proofs.lemmas.Bool.{lt-ltb, le-ltb}
 use Rattle.std.proofs.lemmas.List.{take_more, take-append-drop, drop_more}
@@ -8,10 +8,15 @@ use Rattle.std.proofs.lemmas.List.Elements.{Contains-append_left, Contains-appen
 use Rattle.ms_base.specs.declared.names.Quantity.TheVariants as quantities
 use Rattle.ms_object.specs.declared.fault.GatherError.{GatherError}
 use Rattle.ms_object.specs.declared.fault.GatherError.TheVariants as faults
-use Rattle.ms_object.specs.declared.object.Row.{Row}
-use Rattle.ms_object.specs.Trees.{FileText, Met, first_fault}
+use Rattle.ms_object.specs.declared.object.SizedRow.{SizedRow}
+use Rattle.ms_object.specs.Trees.{FileText, Met, bytes_met, first_fault}
 use Rattle.ms_tree.specs.Files.{total_of}
 use Rattle.ms_tree.specs.Gathering.{Gathers, StopsAt}
+
+pub bytes_append : (x y : List Met) → bytes_met (x ++ y) ≡ bytes_met x + bytes_met y
+bytes_append [] y = refl
+bytes_append (Err e ∷ x) y = bytes_append x y
+bytes_append (Ok file ∷ x) y = omega (arith, bytes_append x y)
 
 pub Gathers-then : (a b c : List FileText) (x y : List Met) → Gathers a b x → Gathers b c y → Gathers a c (x ++ y)
 Gathers-then a b c x y p q = record {
@@ -29,6 +34,7 @@ Gathers-then a b c x y p q = record {
       ]
     ],
   );
+  bytes = omega (arith, p.bytes, q.bytes, bytes_append x y);
 }
 
 pub StopsAt-here : (a : List FileText) (x y : List Met) (e : GatherError) → StopsAt a x e → StopsAt a (x ++ y) e
@@ -42,31 +48,31 @@ StopsAt-then a b x y e p (inr stop) = inr (λ more. ap (first_fault (length a) (
 -- ---- row by row
 
 -- what the rows before it met, and then a row
-pub Gathers-row : (met : Row → List Met) (a b c : List FileText) (rows : List Row) (i : ℕ) (row : Row) → i < length rows → row ≡ get_or rows i row
+pub Gathers-row : (met : SizedRow → List Met) (a b c : List FileText) (rows : List SizedRow) (i : ℕ) (row : SizedRow) → i < length rows → row ≡ get_or rows i row
     → Gathers a b (flat_map met (take i rows)) → Gathers b c (met row) → Gathers a c (flat_map met (take (i + 1) rows))
 Gathers-row met a b c rows i row l is p q =
     subst (λ (m : List Met). Gathers a c m) (sym (row_more met rows i row l is)) (Gathers-then a b c (flat_map met (take i rows)) (met row) p q)
   where
-    row_more : (met : Row → List Met) (rows : List Row) (i : ℕ) (row : Row) → i < length rows → row ≡ get_or rows i row
+    row_more : (met : SizedRow → List Met) (rows : List SizedRow) (i : ℕ) (row : SizedRow) → i < length rows → row ≡ get_or rows i row
         → flat_map met (take (i + 1) rows) ≡ flat_map met (take i rows) ++ met row
     row_more met rows i row l is =
-        ap (flat_map met) (take_more rows i row l ∙ ap (λ (r : Row). take i rows ++ r ∷ []) (sym is))
+        ap (flat_map met) (take_more rows i row l ∙ ap (λ (r : SizedRow). take i rows ++ r ∷ []) (sym is))
         ∙ flat_map-append met (take i rows) (row ∷ [])
         ∙ ap (λ (m : List Met). flat_map met (take i rows) ++ m) (append-nil (met row))
 
 -- where a row meets a fault, all rows together do
-pub StopsAt-row : (met : Row → List Met) (a b : List FileText) (rows : List Row) (i : ℕ) (row : Row) (e : GatherError) → i < length rows → row ≡ get_or rows i row
+pub StopsAt-row : (met : SizedRow → List Met) (a b : List FileText) (rows : List SizedRow) (i : ℕ) (row : SizedRow) (e : GatherError) → i < length rows → row ≡ get_or rows i row
     → Gathers a b (flat_map met (take i rows)) → StopsAt b (met row) e → StopsAt a (flat_map met rows) e
 StopsAt-row met a b rows i row e l is p q =
     subst (λ (m : List Met). StopsAt a m e) (sym (rows_split met rows i row l is))
     (StopsAt-then a b (flat_map met (take i rows)) (met row ++ flat_map met (drop (i + 1) rows)) e p (StopsAt-here b (met row) (flat_map met (drop (i + 1) rows)) e q))
   where
-    rows_split : (met : Row → List Met) (rows : List Row) (i : ℕ) (row : Row) → i < length rows → row ≡ get_or rows i row
+    rows_split : (met : SizedRow → List Met) (rows : List SizedRow) (i : ℕ) (row : SizedRow) → i < length rows → row ≡ get_or rows i row
         → flat_map met rows ≡ flat_map met (take i rows) ++ (met row ++ flat_map met (drop (i + 1) rows))
     rows_split met rows i row l is =
         ap (flat_map met) (sym (take-append-drop i rows)) ∙ flat_map-append met (take i rows) (drop i rows)
         ∙ ap (λ (m : List Met). flat_map met (take i rows) ++ m)
-        (ap (flat_map met) (drop_more rows i row l ∙ ap (λ (r : Row). r ∷ drop (i + 1) rows) (sym is)))
+        (ap (flat_map met) (drop_more rows i row l ∙ ap (λ (r : SizedRow). r ∷ drop (i + 1) rows) (sym is)))
 
 -- ---- a single file
 

@@ -5,6 +5,7 @@ use Rattle.std.proofs.lemmas.Cmp.{nat_list_cmp_total}
 use Rattle.std.proofs.lemmas.List.Elements.{All-filter, All-tail}
 use Rattle.std.proofs.lemmas.List.Sums.{take_while-cons, length-filter, count_by-le-length}
 use Rattle.std.proofs.lemmas.Slice.Eq.{bytes_eq-Decides}
+use Rattle.ms_object.specs.declared.format.Format.{Format}
 use Rattle.ms_object.specs.Trees.{FileText}
 use Rattle.ms_tree.specs.Paths.{IsDirectoryOf}
 use Rattle.ms_tree.specs.Planting.{first_part}
@@ -30,11 +31,11 @@ tested_other x y e s = let t : true ≡ false = sym ((bytes_eq-Decides x y).1 s)
 pub same_tested : (x y : List ℕ) → x ≡ y → bytes_eq x y ≡ true
 same_tested x y s = (bytes_eq-Decides x y).1 s
 
-pub folder_rest : (left : ℕ) (file : FileText) (files : List FileText) → IsFolder left (file ∷ files) → IsFolder left files
-folder_rest left file files w = record {
+pub folder_rest : (format : Format) → (left : ℕ) (file : FileText) (files : List FileText) → IsFolder format left (file ∷ files) → IsFolder format left files
+folder_rest format left file files w = record {
   rising = rises_rest file.0 (map path_of files) w.rising;
   apart = λ f g hf hg. w.apart f g (in_later file files f hf) (in_later file files g hg);
-  each = All-tail (IsFileBelow left) file files w.each;
+  each = All-tail (IsFileBelow format left) file files w.each;
   few = let h = w.few in omega arith;
 }
 
@@ -47,11 +48,11 @@ rises_filter p (file ∷ files) r =
     rises_first file.0 (map path_of files) r y (subst (λ (z : List ℕ). Contains (map path_of files) z) g.2 (map_has path_of files g.0 (filter_from p files g.0 g.1).0))) rest)
     (λ e. rest)
 
-pub folder_filter : (left : ℕ) (p : FileText → Bool) (files : List FileText) → IsFolder left files → IsFolder left (filter p files)
-folder_filter left p files w = record {
+pub folder_filter : (format : Format) → (left : ℕ) (p : FileText → Bool) (files : List FileText) → IsFolder format left files → IsFolder format left (filter p files)
+folder_filter format left p files w = record {
   rising = rises_filter p files w.rising;
   apart = λ f g hf hg. w.apart f g (filter_from p files f hf).0 (filter_from p files g hg).0;
-  each = All-filter p (IsFileBelow left) files w.each;
+  each = All-filter p (IsFileBelow format left) files w.each;
   few = let h = w.few in omega (arith, length-filter p files, count_by-le-length p files);
 }
 
@@ -80,13 +81,13 @@ part_between f g h same fg gh apart back =
     ]
 
 -- behind the first file, those that begin with its part stand first
-pub run_is_part : (left : ℕ) (f : FileText) (files : List FileText) → IsFolder left (f ∷ files) → in_part files (part_of f) ≡ take_while (begins (part_of f)) files
-run_is_part left f [] w = refl
-run_is_part left f (g ∷ gs) w =
+pub run_is_part : (format : Format) → (left : ℕ) (f : FileText) (files : List FileText) → IsFolder format left (f ∷ files) → in_part files (part_of f) ≡ take_while (begins (part_of f)) files
+run_is_part format left f [] w = refl
+run_is_part format left f (g ∷ gs) w =
     elim (cases_Bool (begins (part_of f) g)) [
       | inl does ↦ (
           let same = tested_same (part_of g) (part_of f) does in
-          let r = subst (λ (z : List ℕ). in_part gs z ≡ take_while (begins z) gs) same (run_is_part left g gs (folder_rest left f (g ∷ gs) w)) in
+          let r = subst (λ (z : List ℕ). in_part gs z ≡ take_while (begins z) gs) same (run_is_part format left g gs (folder_rest format left f (g ∷ gs) w)) in
           rw (take_while-cons (begins (part_of f)) g gs) (rw does (ap (λ (l : List FileText). g ∷ l) r)))
       | inr other ↦ (
           let none : in_part gs (part_of f) ≡ [] = filter_none (begins (part_of f)) gs (λ h has. false_from_ne_true _ (λ does.

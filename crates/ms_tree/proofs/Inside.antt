@@ -5,6 +5,7 @@ use Rattle.std.proofs.lemmas.Bool.{cases_Bool, false_from_ne_true}
 use Rattle.std.proofs.lemmas.List.{length-map}
 use Rattle.std.proofs.lemmas.List.Elements.{All-head, All-tail, All-contains}
 use Rattle.std.proofs.lemmas.List.Splits.{slice_split_none, slice_split_at}
+use Rattle.ms_object.specs.declared.format.Format.{Format}
 use Rattle.ms_object.specs.Labels.{IsLabel}
 use Rattle.ms_object.specs.Trees.{FileText}
 use Rattle.ms_tree.specs.Paths.{parts_of}
@@ -81,10 +82,10 @@ file_at_group (file ∷ files) part clear =
     ]
 
 -- what begins with a part is one file of that path, or all is below it
-pub one_or_under : (left : ℕ) (part : List ℕ) (files : List FileText) → IsFolder left files → ((file : FileText) → Contains files file → part_of file ≡ part) → 0 < length files
+pub one_or_under : (format : Format) → (left : ℕ) (part : List ℕ) (files : List FileText) → IsFolder format left files → ((file : FileText) → Contains files file → part_of file ≡ part) → 0 < length files
     → ((text : List ℕ) × (files ≡ (part, text) ∷ [])) ⊎ ((file : FileText) → Contains files file → IsUnder part file)
-one_or_under left part [] w same some = absurd (omega arith)
-one_or_under left part (f ∷ files) w same some =
+one_or_under format left part [] w same some = absurd (omega arith)
+one_or_under format left part (f ∷ files) w same some =
     elim (path_cases f.0) [
       | inl whole ↦ inl (f.1, one_alone left part f files w same (sym whole ∙ same f (in_here f files)))
       | inr cut ↦ inr (λ file has. all_under left part f files w same (cut ∙ ap (λ (l : List ℕ). l ++ 47 ∷ rest_of f.0) (same f (in_here f files))) file has)
@@ -93,7 +94,7 @@ one_or_under left part (f ∷ files) w same some =
     part_or_under : (part : List ℕ) (file : FileText) → part_of file ≡ part → (file.0 ≡ part) ⊎ IsUnder part file
     part_or_under part file e = elim (path_cases file.0) [ inl whole ↦ inl (sym whole ∙ e) | inr cut ↦ inr (cut ∙ ap (λ (l : List ℕ). l ++ 47 ∷ rest_of file.0) e) ]
 
-    one_alone : (left : ℕ) (part : List ℕ) (f : FileText) (files : List FileText) → IsFolder left (f ∷ files) → ((file : FileText) → Contains (f ∷ files) file → part_of file ≡ part) → f.0 ≡ part → f ∷ files ≡ (part, f.1) ∷ []
+    one_alone : (left : ℕ) (part : List ℕ) (f : FileText) (files : List FileText) → IsFolder format left (f ∷ files) → ((file : FileText) → Contains (f ∷ files) file → part_of file ≡ part) → f.0 ≡ part → f ∷ files ≡ (part, f.1) ∷ []
     one_alone left part f [] w same whole = ap (λ (l : List ℕ). let g : FileText = (l, f.1) in g ∷ []) whole
     one_alone left part f (g ∷ files) w same whole =
         let has = in_later f (g ∷ files) g (in_here g files) in
@@ -102,7 +103,7 @@ one_or_under left part (f ∷ files) w same some =
           | inr under ↦ absurd (w.apart f g (in_here f (g ∷ files)) has (rest_of g.0, under ∙ ap (λ (l : List ℕ). l ++ 47 ∷ rest_of g.0) (sym whole)))
         ]
 
-    all_under : (left : ℕ) (part : List ℕ) (f : FileText) (files : List FileText) → IsFolder left (f ∷ files) → ((file : FileText) → Contains (f ∷ files) file → part_of file ≡ part) → IsUnder part f
+    all_under : (left : ℕ) (part : List ℕ) (f : FileText) (files : List FileText) → IsFolder format left (f ∷ files) → ((file : FileText) → Contains (f ∷ files) file → part_of file ≡ part) → IsUnder part f
         → (file : FileText) → Contains (f ∷ files) file → IsUnder part file
     all_under left part f files w same under file has =
         elim (part_or_under part file (same file has)) [
@@ -151,8 +152,8 @@ pub parts_of_whole : (part : List ℕ) → IsClear part → parts_of part ≡ pa
 parts_of_whole part clear = slice_split_none (λ b. b == 47) part clear
 
 -- the first part of a path is a label, and a path has a part
-pub label_first : (left : ℕ) (file : FileText) → IsFileBelow left file → IsLabel (first_part file.0) × (0 < left)
-label_first left file is =
+pub label_first : (format : Format) → (left : ℕ) (file : FileText) → IsFileBelow format left file → IsLabel (first_part file.0) × (0 < left)
+label_first format left file is =
     let clear = first_part_clear file.0 in
     elim (path_cases file.0) [
       | inl whole ↦ (
@@ -163,8 +164,8 @@ label_first left file is =
           (All-head IsLabel (first_part file.0) (parts_of (rest_of file.0)) (subst (λ (l : List (List ℕ)). All IsLabel l) e is.labels), omega (arith, ap length e, is.levels)))
     ]
 
-cut_is : (left : ℕ) (part : List ℕ) (file : FileText) → IsClear part → IsUnder part file → IsFileBelow (suc left) file → IsFileBelow left (cut_file (length part + 1) file)
-cut_is left part file clear under is =
+cut_is : (format : Format) → (left : ℕ) (part : List ℕ) (file : FileText) → IsClear part → IsUnder part file → IsFileBelow format (suc left) file → IsFileBelow format left (cut_file (length part + 1) file)
+cut_is format left part file clear under is =
     let rest = drop (length part + 1) file.0 in
     let e : parts_of file.0 ≡ part ∷ parts_of rest = ap parts_of (cut_under part file under) ∙ parts_of_cut part rest clear in record {
       labels = All-tail IsLabel part (parts_of rest) (subst (λ (l : List (List ℕ)). All IsLabel l) e is.labels);
@@ -173,8 +174,8 @@ cut_is left part file clear under is =
     }
 
 -- the folder below a part
-pub folder_below : (left : ℕ) (part : List ℕ) (files : List FileText) → IsClear part → IsFolder (suc left) files → ((file : FileText) → Contains files file → IsUnder part file) → IsFolder left (cut_files (length part + 1) files)
-folder_below left part files clear w under =
+pub folder_below : (format : Format) → (left : ℕ) (part : List ℕ) (files : List FileText) → IsClear part → IsFolder format (suc left) files → ((file : FileText) → Contains files file → IsUnder part file) → IsFolder format left (cut_files (length part + 1) files)
+folder_below format left part files clear w under =
     let n = length part + 1 in record {
       rising = rises_cut part files under w.rising;
       apart = λ dir file hd hf d.
@@ -187,7 +188,7 @@ folder_below left part files clear w under =
             cut_under part b.0 (under b.0 b.1) ∙ ap (λ (l : List ℕ). part ++ 47 ∷ l) (eb ∙ d.1 ∙ ap (λ (l : List ℕ). l ++ 47 ∷ d.0) (sym ea))
                 ∙ sym (append_assoc part (47 ∷ drop n a.0.0) (47 ∷ d.0)) ∙ ap (λ (l : List ℕ). l ++ 47 ∷ d.0) (sym (cut_under part a.0 (under a.0 a.1))),
           );
-      each = all_from (IsFileBelow left) (cut_files n files) (λ f has. let a = map_from (cut_file n) files f has in
-          subst (IsFileBelow left) a.2 (cut_is left part a.0 clear (under a.0 a.1) (All-contains (IsFileBelow (suc left)) files a.0 w.each a.1)));
+      each = all_from (IsFileBelow format left) (cut_files n files) (λ f has. let a = map_from (cut_file n) files f has in
+          subst (IsFileBelow format left) a.2 (cut_is format left part a.0 clear (under a.0 a.1) (All-contains (IsFileBelow format (suc left)) files a.0 w.each a.1)));
       few = let h = w.few in omega (arith, length-map files (cut_file n));
     }

@@ -76,13 +76,13 @@ allowed_IsFile : (files : FileList) (path text : List ℕ) → IsAllowed files p
 allowed_IsFile files path text a =
     let path_fits = both_ok (within quantities.Path (length path) 1024) _ tt a.path_fits in
     let parts_fit = both_ok (within quantities.Part (long_part (parts_of path)) 200) _ tt path_fits.1 in
-    let text_fits = both_ok (within quantities.File (length text) 67108864) _ tt a.sizes_fit in
+    let text_fits = both_ok (within quantities.File (length text) 1073741824) _ tt a.sizes_fit in
     record {
       path_is = (path_Decides path).0 a.path_is;
       path_short = within_means quantities.Path (length path) 1024 path_fits.0;
       parts_short = all_short (parts_of path) (within_means quantities.Part (long_part (parts_of path)) 200 parts_fit.0);
       levels = within_means quantities.Levels (length (parts_of path)) 64 parts_fit.1;
-      text_short = within_means quantities.File (length text) 67108864 text_fits.0;
+      text_short = within_means quantities.File (length text) 1073741824 text_fits.0;
     }
 
 each_with : (files : FileList) (path text : List ℕ) → IsFiles files → IsFile path text → (q t : List ℕ) → (b : Bool) → bytes_eq q path ≡ b → cond b (Some text) (text_at files q) ≡ Some t → IsFile q t
@@ -120,7 +120,7 @@ apart_with files path text kept free dir q false e false g here there d = kept.a
 -- all is kept where a text that is allowed was put at the path
 pub with_file_IsFiles : (files : FileList) (path text : List ℕ) → IsFiles files → IsAllowed files path text → IsStrictlySortedBy (slice_cmp nat_cmp) (keys_of (with_file files path text)) → IsFiles (with_file files path text)
 with_file_IsFiles files path text kept a rising =
-    let text_fits = both_ok (within quantities.File (length text) 67108864) _ tt a.sizes_fit in
+    let text_fits = both_ok (within quantities.File (length text) 1073741824) _ tt a.sizes_fit in
     let count_fits = both_ok (within quantities.Files (length (with_file files path text)) 100000) _ tt text_fits.1 in
     record {
       rising = rising;
@@ -154,7 +154,7 @@ without_IsFiles files path kept rising = record {
 
 -- the limits where a text stood at the path: there are as many files as before
 pub judged_in_place : (files : FileList) (path text before : List ℕ) (total : ℕ) (answer : Result (Unit {0}) FilesError) → IsFiles files → text_at files path ≡ Some before → total ≡ total_of files
-    → within quantities.File (length text) 67108864 ≡ Ok (tt {0}) → answer ≡ within quantities.Total (total - length before + length text) 1073741824 → answer ≡ size_limits text (with_file files path text)
+    → within quantities.File (length text) 1073741824 ≡ Ok (tt {0}) → answer ≡ within quantities.Total (total - length before + length text) 1073741824 → answer ≡ size_limits text (with_file files path text)
 judged_in_place files path text before total answer kept stood sum file_fits is =
     let count : length (with_file files path text) ≡ length files = length-with_file path text files kept.rising ∙ rw stood (omega arith) in
     let after : total_of (with_file files path text) ≡ total - length before + length text =
@@ -163,14 +163,14 @@ judged_in_place files path text before total answer kept stood sum file_fits is 
 
 -- the limits where none stood there, and the files would be too many
 pub judged_too_many : (files : FileList) (path text : List ℕ) (count : ℕ) (error : FilesError) (answer : Result (Unit {0}) FilesError) → IsFiles files → text_at files path ≡ None → count ≡ length files
-    → within quantities.File (length text) 67108864 ≡ Ok (tt {0}) → within quantities.Files (count + 1) 100000 ≡ Err error → answer ≡ Err error → answer ≡ size_limits text (with_file files path text)
+    → within quantities.File (length text) 1073741824 ≡ Ok (tt {0}) → within quantities.Files (count + 1) 100000 ≡ Err error → answer ≡ Err error → answer ≡ size_limits text (with_file files path text)
 judged_too_many files path text count error answer kept none many file_fits refused is =
     let after : length (with_file files path text) ≡ count + 1 = length-with_file path text files kept.rising ∙ rw none (omega arith) in
     rw (file_fits, after, refused) is
 
 -- the same, where there is room for one more
 pub judged_beside : (files : FileList) (path text : List ℕ) (count total : ℕ) (answer : Result (Unit {0}) FilesError) → IsFiles files → text_at files path ≡ None → count ≡ length files → total ≡ total_of files
-    → within quantities.File (length text) 67108864 ≡ Ok (tt {0}) → within quantities.Files (count + 1) 100000 ≡ Ok (tt {0}) → answer ≡ within quantities.Total (total + length text) 1073741824 → answer ≡ size_limits text (with_file files path text)
+    → within quantities.File (length text) 1073741824 ≡ Ok (tt {0}) → within quantities.Files (count + 1) 100000 ≡ Ok (tt {0}) → answer ≡ within quantities.Total (total + length text) 1073741824 → answer ≡ size_limits text (with_file files path text)
 judged_beside files path text count total answer kept none many sum file_fits fits is =
     let after : length (with_file files path text) ≡ count + 1 = length-with_file path text files kept.rising ∙ rw none (omega arith) in
     let bytes : total_of (with_file files path text) ≡ total + length text =

@@ -25,11 +25,13 @@ pub mod Groups
 pub mod Runs
 pub mod Inside
 pub mod Shown
-pub mod Stored
+pub mod Sums
+mod Stored
 pub mod Pieces
 pub mod Meeting
 pub mod Grouping
-pub mod PlantedFile
+pub mod PlainRows
+mod PlantedFile
 pub mod PlantedTree
 pub mod Writing
 pub mod Back

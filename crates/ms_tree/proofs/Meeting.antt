@@ -1,5 +1,5 @@
 -- What a walk meets where it meets no fault: some files, in whatever order.
-use Rattle.std.proofs.Common.{◌≡◌, ℕ, ◌+◌, ◌≤◌, false, ltb, List, [], ◌∷◌, ◌++◌, length, Contains, ◌↔◌, Ok, refl, ap, subst, ◌∙◌, append_assoc, arith, inl, inr, sum_by, IsPermutation}
+use Rattle.std.proofs.Common.{◌≡◌, ℕ, ◌+◌, ◌≤◌, false, ltb, List, [], ◌∷◌, ◌++◌, length, Contains, ◌↔◌, Ok, refl, sym, ap, subst, ◌∙◌, append_assoc, arith, inl, inr, sum_by, IsPermutation}
 use Rattle.std.specs.List.{flat_map}
 use Rattle.std.specs.Map.{values_of}
 use Rattle.std.proofs.lemmas.Bool.{le-ltb}
@@ -8,8 +8,9 @@ use Rattle.std.proofs.lemmas.List.Elements.{Contains-append_left, Contains-appen
 use Rattle.std.proofs.lemmas.List.Sorted.{length_permutation, Contains-permutation, IsPermutation-sym}
 use Rattle.std.proofs.lemmas.List.Sums.{sum_by-append}
 use Rattle.std.proofs.lemmas.Map.Entries.{sum_by_values_permutation}
-use Rattle.ms_object.specs.Trees.{FileText, Met, first_fault}
+use Rattle.ms_object.specs.Trees.{FileText, Met, bytes_met, first_fault}
 use Rattle.ms_tree.specs.Files.{total_of}
+use Rattle.ms_tree.proofs.Faults.{bytes_append}
 use Rattle.ms_tree.proofs.Members.{in_none, in_here, in_later, in_cases}
 
 -- the files are met, each once, and no fault
@@ -17,6 +18,7 @@ pub record Meets (files : List FileText) (met : List Met) : Type 0 where
   pub goes_on : (count total : ℕ) (more : List Met) → count + length files ≤ 100000 → total + total_of files ≤ 1073741824
       → first_fault count total (met ++ more) ≡ first_fault (count + length files) (total + total_of files) more
   pub found : (file : FileText) → Contains files file ↔ Contains met (Ok file)
+  pub bytes : bytes_met met ≡ total_of files
 
 total_append : (a b : List FileText) → total_of (a ++ b) ≡ total_of a + total_of b
 total_append a b = ap (sum_by length) (map-append (λ (e : FileText). e.1) a b) ∙ sum_by-append length (values_of a) (values_of b)
@@ -28,6 +30,7 @@ pub meets_none : Meets [] []
 meets_none = record {
   goes_on = λ count total more few small. two_same more count (count + 0) total (total + 0) (omega arith) (omega arith);
   found = λ file. (λ h. absurd (in_none file h), λ h. absurd (in_none (Ok file) h));
+  bytes = refl;
 }
 
 pub meets_one : (f : FileText) → Meets (f ∷ []) (Ok f ∷ [])
@@ -42,6 +45,7 @@ meets_one f = record {
     λ h. elim (in_cases f [] file h) [ inl same ↦ subst (λ (g : FileText). Contains {X = Met} (Ok f ∷ []) (Ok g)) same (in_here {X = Met} (Ok f) []) | inr none ↦ absurd (in_none file none) ],
     λ h. elim (in_cases (Ok f) [] (Ok file) h) [ inl same ↦ (let e : f ≡ file = cc in subst (λ (g : FileText). Contains (f ∷ []) g) e (in_here f [])) | inr none ↦ absurd (in_none (Ok file) none) ],
   );
+  bytes = omega arith;
 }
 
 pub meets_append : (a b : List FileText) (x y : List Met) → Meets a x → Meets b y → Meets (a ++ b) (x ++ y)
@@ -63,6 +67,7 @@ meets_append a b x y p q = record {
       | inr second ↦ Contains-append_right a b file ((q.found file).1 second)
     ],
   );
+  bytes = omega (arith, bytes_append x y, total_append a b, p.bytes, q.bytes);
 }
 
 pub meets_permuted : (a b : List FileText) (met : List Met) → IsPermutation a b → Meets a met → Meets b met
@@ -76,6 +81,7 @@ meets_permuted a b met same h = record {
     λ has. (h.found file).0 (Contains-permutation b a file (IsPermutation-sym a b same) has),
     λ has. Contains-permutation a b file same ((h.found file).1 has),
   );
+  bytes = h.bytes ∙ sym (sum_by_values_permutation length a b same);
 }
 
 pub meets_same : (a b : List FileText) (x y : List Met) → a ≡ b → x ≡ y → Meets a x → Meets b y

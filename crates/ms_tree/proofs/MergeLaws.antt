@@ -288,8 +288,8 @@ module _ {base ours theirs : FileList} {tag : List ℕ} (may : MayMerge base our
           ]
         ]
 
-    pub merge_short : All (λ f. length f.1 ≤ 67108864) files
-    merge_short = all_from (λ f. length f.1 ≤ 67108864) files (λ f h. (file_source f.0 f.1 (at_path files f.0 f.1 m.rise h)).row.text_short)
+    pub merge_short : All (λ f. length f.1 ≤ 1073741824) files
+    merge_short = all_from (λ f. length f.1 ≤ 1073741824) files (λ f h. (file_source f.0 f.1 (at_path files f.0 f.1 m.rise h)).row.text_short)
 
     each : KeepsLimits files (names_of m) → (path text : List ℕ) → text_at files path ≡ Some text → IsFile path text
     each fits path text h =

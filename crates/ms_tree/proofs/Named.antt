@@ -2,14 +2,15 @@
 use Rattle.std.proofs.Common.{◌≡◌, ◌≢◌, ℕ, suc, ◌+◌, ◌-◌, ◌≤◌, ◌==◌, Bool, true, false, cond, List, [], ◌∷◌, length, get_or, take, drop, Option, Some, None, Result, Ok, Err, refl, sym, ap, subst, ◌∙◌, eq-eqb, arith}
 use Rattle.std.proofs.lemmas.List.{take_all}
 use Rattle.std.proofs.lemmas.Bool.{ne_eqb}
+use Rattle.ms_object.specs.declared.format.Format.{Format}
 use Rattle.ms_base.specs.declared.names.Name.{Name}
 use Rattle.ms_object.specs.declared.fault.GatherError.{GatherError}
 use Rattle.ms_object.specs.declared.fault.GatherError.TheVariants as faults
 use Rattle.ms_object.specs.declared.object.Object.{Object}
-use Rattle.ms_object.specs.declared.object.Object.TheVariants as objects
-use Rattle.ms_object.specs.Objects.{Spells, blob_size}
-use Rattle.ms_object.specs.Reading.{object_at}
-use Rattle.ms_object.specs.Trees.{Texts, or_fault, text_or_fault, object_or_fault, object_named, blob_of}
+use Rattle.ms_object.specs.declared.format.Format.TheVariants as formats
+use Rattle.ms_object.specs.Objects.{Spells}
+use Rattle.ms_object.specs.Reading.{blob_bytes, object_at}
+use Rattle.ms_object.specs.Trees.{Texts, or_fault, text_or_fault, object_or_fault, object_named, of_size, blob_of}
 
 pub nothing_named : (store : Texts) (name : Name) → store name.0 ≡ None → object_named store name ≡ Err (faults.Missing name)
 unfolding object_named
@@ -35,53 +36,20 @@ unread text read none = by (object_at text) (λ o e. none o (read o e))
 
 -- ---- blobs
 
--- what a text holds that is wanted as a blob of this size
-abbrev blob_in : Name → ℕ → Option Object → Result (List ℕ) GatherError
-blob_in name size found = or_fault (object_or_fault name found) (blob_of name size)
+none_wanted : (format : Format) → blob_bytes format None ≡ None
+none_wanted formats.One = refl
+none_wanted formats.Two = refl
 
--- `B` and so many bytes are a blob
-pub blob_read : (name : Name) (size : ℕ) (bytes : List ℕ) → ((o : Object) → Spells (66 ∷ bytes) o → object_at (66 ∷ bytes) ≡ Some o) → length bytes ≤ blob_size → length bytes ≡ size
-    → blob_in name size (object_at (66 ∷ bytes)) ≡ Ok bytes
-blob_read name size bytes again short same =
-    let at : object_at (66 ∷ bytes) ≡ Some (objects.Blob bytes) = again (objects.Blob bytes) (record { ranges = short; spelled = refl }) in
-    let test : (length bytes == size) ≡ true = eq-eqb (length bytes) size same in
-    ap (blob_in name size) at ∙ ap (λ (b : Bool). cond b (Ok bytes) (Err (faults.WrongKind name))) test
+-- what is wanted as a blob of this size, where the blob of a text is known
+pub blob_wanted : (format : Format) (name : Name) (size : ℕ) (o : Option Object) (bytes : Option (List ℕ)) → bytes ≡ blob_bytes format o → or_fault (object_or_fault name o) (blob_of format name size) ≡ object_or_fault name (of_size size bytes)
+blob_wanted format name size None bytes is = ap (λ (b : Option (List ℕ)). object_or_fault name (of_size size b)) (sym (is ∙ none_wanted format))
+blob_wanted format name size (Some p) bytes is = ap (λ (b : Option (List ℕ)). object_or_fault name (of_size size b)) (sym is)
 
--- a blob is `B` and bytes; where these are not as many as that, it is of the wrong kind
-other_blob : (name : Name) (size : ℕ) (text : List ℕ) (o : Object) → Spells text o → ((bytes : List ℕ) → text ≡ 66 ∷ bytes → length bytes ≡ size → ⊥) → blob_of name size o ≡ Err (faults.WrongKind name)
-other_blob name size text (objects.Blob bytes) h none =
-    let test : (length bytes == size) ≡ false = ne_eqb (length bytes) size (none bytes h.spelled) in
-    ap (λ (b : Bool). cond b (Ok bytes) (Err (faults.WrongKind name))) test
-other_blob name size text (objects.File n blobs) h none = refl
-other_blob name size text (objects.Dir rows) h none = refl
-other_blob name size text (objects.Version client number parents root) h none = refl
+pub size_right : (name : Name) (size : ℕ) (bytes : List ℕ) → length bytes ≡ size → object_or_fault name (of_size size (Some bytes)) ≡ Ok bytes
+size_right name size bytes same = let test : (length bytes == size) ≡ true = eq-eqb (length bytes) size same in rw test refl
 
-pub no_blob_read : (name : Name) (size : ℕ) (text : List ℕ) → ((o : Object) → object_at text ≡ Some o → Spells text o) → ((bytes : List ℕ) → text ≡ 66 ∷ bytes → length bytes ≡ size → ⊥)
-    → blob_in name size (object_at text) ≡ Err (faults.WrongKind name)
-no_blob_read name size text read none = by (object_at text) read
-  where
-    by : (found : Option Object) → ((o : Object) → found ≡ Some o → Spells text o) → blob_in name size found ≡ Err (faults.WrongKind name)
-    by None h = refl
-    by (Some o) h = other_blob name size text o (h o refl) none
-
--- a text of `B` and so many bytes
-pub blob_is : (name : Name) (size : ℕ) (text : List ℕ) → ((o : Object) → Spells text o → object_at text ≡ Some o) → size ≤ blob_size → length text ≡ size + 1 → get_or text 0 0 ≡ 66
-    → blob_in name size (object_at text) ≡ Ok (take (length text - 1) (drop 1 text))
-blob_is name size [] again small long tag = absurd (omega (arith, long))
-blob_is name size (b ∷ bytes) again small long tag =
-    let whole : take (length (b ∷ bytes) - 1) bytes ≡ bytes = take_all (length (b ∷ bytes) - 1) bytes (omega arith) in
-    subst (λ (t : ℕ). ((o : Object) → Spells (t ∷ bytes) o → object_at (t ∷ bytes) ≡ Some o) → blob_in name size (object_at (t ∷ bytes)) ≡ Ok bytes) (sym tag)
-    (λ again. blob_read name size bytes again (omega (arith, long, small)) (omega (arith, long))) again
-    ∙ ap given (sym whole)
-  where
-    given : List ℕ → Result (List ℕ) GatherError
-    given bytes = Ok bytes
-
-pub not_as_long : (name : Name) (size : ℕ) (text : List ℕ) → ((o : Object) → object_at text ≡ Some o → Spells text o) → length text ≢ size + 1 → blob_in name size (object_at text) ≡ Err (faults.WrongKind name)
-not_as_long name size text read long = no_blob_read name size text read (λ bytes e same. long (let q : length text ≡ suc (length bytes) = ap (λ (t : List ℕ). length t) e in omega (arith, q, same)))
-
-pub not_tagged : (name : Name) (size : ℕ) (text : List ℕ) → ((o : Object) → object_at text ≡ Some o → Spells text o) → get_or text 0 0 ≢ 66 → blob_in name size (object_at text) ≡ Err (faults.WrongKind name)
-not_tagged name size text read tag = no_blob_read name size text read (λ bytes e same. tag (ap (λ (t : List ℕ). get_or t 0 0) e))
+pub size_wrong : (name : Name) (size : ℕ) (bytes : List ℕ) → length bytes ≢ size → object_or_fault name (of_size size (Some bytes)) ≡ Err (faults.WrongKind name)
+size_wrong name size bytes other = let test : (length bytes == size) ≡ false = ne_eqb (length bytes) size other in rw test refl
 
 -- ---- what is wanted of a name
 

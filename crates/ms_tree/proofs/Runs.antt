@@ -10,6 +10,7 @@ use Rattle.std.proofs.lemmas.List.Elements.{All-head, All-tail, All-nil, All-pus
 use Rattle.std.proofs.lemmas.List.Sorted.{IsPermutation-map, All-permutation, Contains-permutation, IsPermutation-sym}
 use Rattle.std.proofs.lemmas.List.Sums.{take_while-cons}
 use Rattle.std.proofs.lemmas.Map.Keys.{IsDistinct-push, IsDistinct-IsPermutation, apart_from_distinct, sorted_from_all_adjacent}
+use Rattle.ms_object.specs.declared.format.Format.{Format}
 use Rattle.ms_object.specs.Trees.{FileText}
 use Rattle.ms_tree.specs.Folders.{IsFolder, in_part, split_files}
 use Rattle.ms_tree.proofs.Members.{in_none, in_here, in_later, Rises, one_is_before, map_has, map_from, filter_from, filter_has, filter_none, filter_whole}
@@ -46,9 +47,9 @@ groups_none files = record {
   to = λ part h. h;
 }
 
-folder_behind : (left : ℕ) (done rest : List FileText) → IsFolder left (done ++ rest) → IsFolder left rest
-folder_behind left [] rest w = w
-folder_behind left (file ∷ done) rest w = folder_behind left done rest (folder_rest left file (done ++ rest) w)
+folder_behind : (format : Format) → (left : ℕ) (done rest : List FileText) → IsFolder format left (done ++ rest) → IsFolder format left rest
+folder_behind format left [] rest w = w
+folder_behind format left (file ∷ done) rest w = folder_behind format left done rest (folder_rest format left file (done ++ rest) w)
 
 -- the first file and all that begin as it does
 pub run : FileText → List FileText → List FileText
@@ -68,23 +69,23 @@ others_is f rest = refl
 pub own_part : (f : FileText) → begins (part_of f) f ≡ true
 own_part f = same_tested (part_of f) (part_of f) refl
 
-rest_part : (left : ℕ) (f : FileText) (rest : List FileText) → IsFolder left (f ∷ rest) → in_part (f ∷ rest) (part_of f) ≡ run f rest
+rest_part : (format : Format) → (left : ℕ) (f : FileText) (rest : List FileText) → IsFolder format left (f ∷ rest) → in_part (f ∷ rest) (part_of f) ≡ run f rest
 unfolding run
-rest_part left f rest w = rw (take_while-cons (begins (part_of f)) f rest) (rw (own_part f) (ap (λ (l : List FileText). f ∷ l) (run_is_part left f rest w)))
+rest_part format left f rest w = rw (take_while-cons (begins (part_of f)) f rest) (rw (own_part f) (ap (λ (l : List FileText). f ∷ l) (run_is_part format left f rest w)))
 
 run_whole : (f : FileText) (rest : List FileText) → run f rest ++ others f rest ≡ f ∷ rest
 unfolding run others
 run_whole f rest = take-append-drop _ (f ∷ rest)
 
-in_run : (left : ℕ) (f : FileText) (rest : List FileText) → IsFolder left (f ∷ rest) → (g : FileText) → Contains (run f rest) g → part_of g ≡ part_of f
-in_run left f rest w g h = tested_same (part_of g) (part_of f) (filter_from (begins (part_of f)) (f ∷ rest) g (subst (λ (l : List FileText). Contains l g) (sym (rest_part left f rest w)) h)).1
+in_run : (format : Format) → (left : ℕ) (f : FileText) (rest : List FileText) → IsFolder format left (f ∷ rest) → (g : FileText) → Contains (run f rest) g → part_of g ≡ part_of f
+in_run format left f rest w g h = tested_same (part_of g) (part_of f) (filter_from (begins (part_of f)) (f ∷ rest) g (subst (λ (l : List FileText). Contains l g) (sym (rest_part format left f rest w)) h)).1
 
-not_in_others : (left : ℕ) (f : FileText) (rest : List FileText) → IsFolder left (f ∷ rest) → (g : FileText) → Contains (others f rest) g → part_of g ≡ part_of f → ⊥
-not_in_others left f rest w g h same =
+not_in_others : (format : Format) → (left : ℕ) (f : FileText) (rest : List FileText) → IsFolder format left (f ∷ rest) → (g : FileText) → Contains (others f rest) g → part_of g ≡ part_of f → ⊥
+not_in_others format left f rest w g h same =
     let p = begins (part_of f) in
-    let inside : filter p (run f rest) ≡ run f rest = filter_whole p (run f rest) (λ x has. same_tested (part_of x) (part_of f) (in_run left f rest w x has)) in
+    let inside : filter p (run f rest) ≡ run f rest = filter_whole p (run f rest) (λ x has. same_tested (part_of x) (part_of f) (in_run format left f rest w x has)) in
     let split : run f rest ++ filter p (others f rest) ≡ run f rest ++ [] =
-    ap (λ (l : List FileText). l ++ filter p (others f rest)) (sym inside) ∙ sym (filter-append p (run f rest) (others f rest)) ∙ ap (filter p) (run_whole f rest) ∙ rest_part left f rest w ∙ sym (append-nil (run f rest)) in
+    ap (λ (l : List FileText). l ++ filter p (others f rest)) (sym inside) ∙ sym (filter-append p (run f rest) (others f rest)) ∙ ap (filter p) (run_whole f rest) ∙ rest_part format left f rest w ∙ sym (append-nil (run f rest)) in
     let none : filter p (others f rest) ≡ [] = append_cancel_left (run f rest) (filter p (others f rest)) [] split in
     in_none g (subst (λ (l : List FileText). Contains l g) none (filter_has p (others f rest) g h (same_tested (part_of g) (part_of f) same)))
 
@@ -99,11 +100,11 @@ unfolding run
 first_in_run f rest = rw (take_while-cons (begins (part_of f)) f rest) (rw (own_part f) (in_here f (take_while (begins (part_of f)) rest)))
 
 -- its files are all that begin with the part
-run_is_group : (left : ℕ) (f : FileText) (done rest : List FileText) → IsFolder left (f ∷ rest) → ((d g : FileText) → Contains done d → Contains (f ∷ rest) g → part_of d ≡ part_of g → ⊥) → in_part (done ++ f ∷ rest) (part_of f) ≡ run f rest
-run_is_group left f done rest w later =
+run_is_group : (format : Format) → (left : ℕ) (f : FileText) (done rest : List FileText) → IsFolder format left (f ∷ rest) → ((d g : FileText) → Contains done d → Contains (f ∷ rest) g → part_of d ≡ part_of g → ⊥) → in_part (done ++ f ∷ rest) (part_of f) ≡ run f rest
+run_is_group format left f done rest w later =
     let p = begins (part_of f) in
     let none : filter p done ≡ [] = filter_none p done (λ d has. false_from_ne_true _ (λ does. later d f has (in_here f rest) (tested_same (part_of d) (part_of f) does))) in
-    filter-append p done (f ∷ rest) ∙ ap (λ (l : List FileText). l ++ filter p (f ∷ rest)) none ∙ rest_part left f rest w
+    filter-append p done (f ∷ rest) ∙ ap (λ (l : List FileText). l ++ filter p (f ∷ rest)) none ∙ rest_part format left f rest w
 
 any_none : (part : List ℕ) (parts : List (List ℕ)) → ((q : List ℕ) → Contains parts q → part ≡ q → ⊥) → list_any (bytes_eq part) parts ≡ false
 any_none part [] h = refl
@@ -112,12 +113,12 @@ any_none part (q ∷ parts) h = or_from _ _ (false_from_ne_true _ (λ e. h q (in
 labels_more : (groups : List Group) (group : Group) → map label_of (groups ++ group ∷ []) ≡ map label_of groups ++ group.0 ∷ []
 labels_more groups group = map-append label_of groups (group ∷ [])
 
-later_more : (left : ℕ) (f : FileText) (done rest : List FileText) → IsFolder left (f ∷ rest) → ((d g : FileText) → Contains done d → Contains (f ∷ rest) g → part_of d ≡ part_of g → ⊥)
+later_more : (format : Format) → (left : ℕ) (f : FileText) (done rest : List FileText) → IsFolder format left (f ∷ rest) → ((d g : FileText) → Contains done d → Contains (f ∷ rest) g → part_of d ≡ part_of g → ⊥)
     → (d g : FileText) → Contains (done ++ run f rest) d → Contains (others f rest) g → part_of d ≡ part_of g → ⊥
-later_more left f done rest w later d g hd hg same =
+later_more format left f done rest w later d g hd hg same =
     elim (Contains-append_cases done (run f rest) d hd) [
       | inl before ↦ later d g before (in_rest f rest g hg) same
-      | inr now ↦ not_in_others left f rest w g hg (sym same ∙ in_run left f rest w d now)
+      | inr now ↦ not_in_others format left f rest w g hg (sym same ∙ in_run format left f rest w d now)
     ]
 
 distinct_more : (f : FileText) (done rest : List FileText) (groups : List Group) → ((d g : FileText) → Contains done d → Contains (f ∷ rest) g → part_of d ≡ part_of g → ⊥)
@@ -135,27 +136,27 @@ from_more f done rest groups from group e part h =
       | inr now ↦ Contains-append_right (map part_of done) (map part_of (run f rest)) part (subst (λ (l : List ℕ). Contains (map part_of (run f rest)) l) (sym e ∙ now) (map_has part_of (run f rest) f (first_in_run f rest)))
     ])
 
-to_more : (left : ℕ) (f : FileText) (done rest : List FileText) (groups : List Group) → IsFolder left (f ∷ rest) → ((part : List ℕ) → Contains (map part_of done) part → Contains (map label_of groups) part)
+to_more : (format : Format) → (left : ℕ) (f : FileText) (done rest : List FileText) (groups : List Group) → IsFolder format left (f ∷ rest) → ((part : List ℕ) → Contains (map part_of done) part → Contains (map label_of groups) part)
     → (group : Group) → group.0 ≡ part_of f → (part : List ℕ) → Contains (map part_of (done ++ run f rest)) part → Contains (map label_of (groups ++ group ∷ [])) part
-to_more left f done rest groups w to group e part h =
+to_more format left f done rest groups w to group e part h =
     subst (λ (l : List (List ℕ)). Contains l part) (sym (labels_more groups group))
     (elim (Contains-append_cases (map part_of done) (map part_of (run f rest)) part (subst (λ (l : List (List ℕ)). Contains l part) (map-append part_of done (run f rest)) h)) [
       | inl before ↦ Contains-append_left (map label_of groups) (group.0 ∷ []) part (to part before)
       | inr now ↦ (let g = map_from part_of (run f rest) part now in
-          subst (λ (l : List ℕ). Contains (map label_of groups ++ group.0 ∷ []) l) (e ∙ sym (in_run left f rest w g.0 g.1) ∙ g.2) (Contains-push (map label_of groups) group.0))
+          subst (λ (l : List ℕ). Contains (map label_of groups ++ group.0 ∷ []) l) (e ∙ sym (in_run format left f rest w g.0 g.1) ∙ g.2) (Contains-push (map label_of groups) group.0))
     ])
 
-pub more_groups : (left : ℕ) (files done : List FileText) (f : FileText) (rest : List FileText) (groups : List Group) → IsFolder left files → AreGroups files done (f ∷ rest) groups
+pub more_groups : (format : Format) → (left : ℕ) (files done : List FileText) (f : FileText) (rest : List FileText) (groups : List Group) → IsFolder format left files → AreGroups files done (f ∷ rest) groups
     → AreGroups files (done ++ run f rest) (others f rest) (groups ++ (part_of f, run f rest) ∷ [])
-more_groups left files done f rest groups w a =
-    let v = folder_behind left done (f ∷ rest) (subst (IsFolder left) a.whole w) in
+more_groups format left files done f rest groups w a =
+    let v = folder_behind format left done (f ∷ rest) (subst (IsFolder format left) a.whole w) in
     let group : Group = (part_of f, run f rest) in record {
       whole = a.whole ∙ ap (λ (l : List FileText). done ++ l) (sym (run_whole f rest)) ∙ sym (append_assoc done (run f rest) (others f rest));
-      later = later_more left f done rest v a.later;
-      each = All-push (λ (g : Group). g.1 ≡ in_part files g.0) groups group a.each (sym (run_is_group left f done rest v a.later) ∙ ap (λ (l : List FileText). in_part l (part_of f)) (sym a.whole));
+      later = later_more format left f done rest v a.later;
+      each = All-push (λ (g : Group). g.1 ≡ in_part files g.0) groups group a.each (sym (run_is_group format left f done rest v a.later) ∙ ap (λ (l : List FileText). in_part l (part_of f)) (sym a.whole));
       distinct = distinct_more f done rest groups a.later a.distinct a.from group refl;
       from = from_more f done rest groups a.from group refl;
-      to = to_more left f done rest groups v a.to group refl;
+      to = to_more format left f done rest groups v a.to group refl;
     }
 
 labels_move : (groups sorted : List Group) → IsPermutation groups sorted → (part : List ℕ) → Contains (map label_of sorted) part → Contains (map label_of groups) part

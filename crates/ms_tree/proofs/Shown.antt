@@ -6,6 +6,7 @@ use Rattle.std.specs.Cmp.Lexicographic.{slice_cmp}
 use Rattle.std.proofs.lemmas.List.Sorted.{IsPermutation-map}
 use Rattle.std.proofs.lemmas.List.{get_or-map, length-map, drop-map, take-map, take_rest, drop_more, drop_all, drop-drop, get_or-drop}
 use Rattle.std.proofs.lemmas.List.Sums.{prefix_len-drop_yes, prefix_len-drop_no, prefix_len-le-length}
+use Rattle.ms_object.specs.declared.format.Format.{Format}
 use Rattle.ms_object.specs.Trees.{FileText}
 use Rattle.ms_tree.specs.declared.files.FileRef.{FileRef}
 use Rattle.ms_tree.specs.declared.parts.Part.{Part}
@@ -83,11 +84,11 @@ counted_some skip i n label files d below first count =
     subst (λ (k : ℕ). 0 < k) (sym n') (prefix_some (begins (part_of f)) f (drop (i + 1) all) (own_part f))
 
 -- one part more
-pub more_shown : (left skip i n : ℕ) (label : List ℕ) (files : List FileRef) (groups : List Group) (d : FileRef) → IsFolder left (shown_from skip files) → i < length files
+pub more_shown : (format : Format) → (left skip i n : ℕ) (label : List ℕ) (files : List FileRef) (groups : List Group) (d : FileRef) → IsFolder format left (shown_from skip files) → i < length files
     → AreGroups (shown_from skip files) (take i (shown_from skip files)) (drop i (shown_from skip files)) groups
     → label ≡ first_part (drop skip (get_or (take (length files - i) (drop i files)) 0 d).path.now) → n ≡ prefix_len (begins label) (drop i (shown_from skip files))
     → AreGroups (shown_from skip files) (take (i + n) (shown_from skip files)) (drop (i + n) (shown_from skip files)) (groups ++ (label, shown_from skip (take n (take (length files - i) (drop i files)))) ∷ [])
-more_shown left skip i n label files groups d w below a first count =
+more_shown format left skip i n label files groups d w below a first count =
     let all = shown_from skip files in
     let e : FileText = ([], []) in
     let f = get_or all i e in
@@ -96,7 +97,7 @@ more_shown left skip i n label files groups d w below a first count =
     let inside : i < length all = omega arith in
     let rest : drop i all ≡ f ∷ drop (i + 1) all = drop_more all i e inside in
     let n' : n ≡ prefix_len (begins (part_of f)) (f ∷ drop (i + 1) all) = count ∙ ap (λ (l : List ℕ). prefix_len (begins l) (drop i all)) is ∙ ap (prefix_len (begins (part_of f))) rest in
-    let more = more_groups left all (take i all) f (drop (i + 1) all) groups w (subst (λ (l : List FileText). AreGroups all (take i all) l groups) rest a) in
+    let more = more_groups format left all (take i all) f (drop (i + 1) all) groups w (subst (λ (l : List FileText). AreGroups all (take i all) l groups) rest a) in
     let front : run f (drop (i + 1) all) ≡ take n (drop i all) = run_is f (drop (i + 1) all) ∙ ap (λ (k : ℕ). take k (f ∷ drop (i + 1) all)) (sym n') ∙ ap (take n) (sym rest) in
     let back : others f (drop (i + 1) all) ≡ drop n (drop i all) = others_is f (drop (i + 1) all) ∙ ap (λ (k : ℕ). drop k (f ∷ drop (i + 1) all)) (sym n') ∙ ap (drop n) (sym rest) in
     let here : shown_from skip (take n (take (length files - i) (drop i files))) ≡ take n (drop i all) =
@@ -115,10 +116,10 @@ pub none_shown : (skip : ℕ) (files : List FileRef) (groups : List Group) → g
 none_shown skip files groups e = subst (λ (gs : List Group). AreGroups (shown_from skip files) [] (shown_from skip files) gs) (sym e) (groups_none (shown_from skip files))
 
 -- all parts, sorted
-pub parts_sorted : (skip i left : ℕ) (files : List FileRef) (parts sorted : List Part) → IsFolder left (shown_from skip files) → length files ≤ i
+pub parts_sorted : (format : Format) → (skip i left : ℕ) (files : List FileRef) (parts sorted : List Part) → IsFolder format left (shown_from skip files) → length files ≤ i
     → AreGroups (shown_from skip files) (take i (shown_from skip files)) (drop i (shown_from skip files)) (map (shown_part skip) parts) → IsPermutation parts sorted
     → IsSortedBy (λ one other. is_lt (slice_cmp nat_cmp one.label.now other.label.now)) sorted → map (shown_part skip) sorted ≡ split_files (shown_from skip files)
-parts_sorted skip i left files parts sorted w all a moved up =
+parts_sorted format skip i left files parts sorted w all a moved up =
     let shown = shown_from skip files in
     let len : length shown ≡ length files = length-map files (λ file. let f : FileText = (drop skip file.path.now, file.text.now) in f) in
     let none : drop i shown ≡ [] = drop_all i shown (omega arith) in

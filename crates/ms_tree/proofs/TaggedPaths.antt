@@ -165,7 +165,7 @@ part_with_end end plain long part is =
 pub record IsRow (path text : List ℕ) : Type 0 where
   pub path_is : IsPath path
   pub levels : length (parts_of path) ≤ 64
-  pub text_short : length text ≤ 67108864
+  pub text_short : length text ≤ 1073741824
 
 pub row_of_file : (path text : List ℕ) → IsFile path text → IsRow path text
 row_of_file path text is = record { path_is = is.path_is; levels = is.levels; text_short = is.text_short }

@@ -1,9 +1,10 @@
 -- What is planted of files, as a whole.
 use Rattle.std.proofs.Common.{◌≡◌, ℕ, List, [], inl, inr, sym, ◌∙◌, subst, Some, None}
+use Rattle.ms_object.specs.declared.format.Format.{Format}
 use Rattle.ms_base.specs.declared.names.Name.{Name}
 use Rattle.ms_object.specs.Trees.{Texts, FileText, IsTree}
 use Rattle.ms_tree.specs.Files.{IsFiles}
-use Rattle.ms_tree.specs.Planting.{AddsTexts, HoldsTexts, IsPlanted, directory_text, named, object_texts}
+use Rattle.ms_tree.specs.Planting.{AddsTexts, HoldsTexts, IsPlanted, first_large, directory_text, named, object_texts}
 use Rattle.ms_tree.proofs.PlantedFile.{Reads}
 use Rattle.ms_tree.proofs.PlantedTree.{FitBehind, collide_or_has, planted_tree}
 use Rattle.ms_tree.proofs.WholeFolder.{text_here, whole_folder}
@@ -18,14 +19,14 @@ all_held old new texts none adds = record {
 paths_short : (files : List FileText) → IsFiles files → FitBehind [] files
 paths_short files is file has = (is.each file.0 file.1 (text_here files is file has)).path_short
 
-pub planted_whole : (files : List FileText) (old new : Texts) (root : Name) → Reads → IsFiles files → ((name : List ℕ) → old name ≡ None) → AddsTexts old new (object_texts 64 files) → root ≡ named (directory_text 64 files)
-    → IsPlanted files new root
-planted_whole files old new root reads is none adds named_so =
-    let holds = all_held old new (object_texts 64 files) none adds in record {
+pub planted_whole : (format : Format) → (files : List FileText) (old new : Texts) (root : Name) → Reads → IsFiles files → first_large format files ≡ None → ((name : List ℕ) → old name ≡ None) → AddsTexts old new (object_texts format 64 files) → root ≡ named (directory_text format 64 files)
+    → IsPlanted format files new root
+planted_whole format files old new root reads is small none adds named_so =
+    let holds = all_held old new (object_texts format 64 files) none adds in record {
       root_is = named_so;
       objects = holds;
-      tree = elim (collide_or_has new (object_texts 64 files) holds) [
+      tree = elim (collide_or_has new (object_texts format 64 files) holds) [
         | inl two ↦ inl two
-        | inr has ↦ inr (subst (λ (name : Name). IsTree new name files) (sym named_so) (planted_tree files new reads (whole_folder files is) (paths_short files is) is.total has))
+        | inr has ↦ inr (subst (λ (name : Name). IsTree new name files) (sym named_so) (planted_tree format files new reads (whole_folder format files is small) (paths_short files is) is.total has))
       ];
     }

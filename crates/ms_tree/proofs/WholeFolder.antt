@@ -3,16 +3,21 @@ use Rattle.std.proofs.Common.{◌≡◌, ℕ, zero, suc, ◌+◌, ◌<◌, ◌�
 use Rattle.std.proofs.lemmas.List.{get_or_at}
 use Rattle.std.proofs.lemmas.List.Elements.{All-contains, All-cons, All-nil}
 use Rattle.std.proofs.lemmas.Str.{IsUtf8-take, IsUtf8-drop, IsCharBoundary-before_ascii, IsCharBoundary-after_ascii}
+use Rattle.ms_object.specs.declared.format.Format.{Format}
 use Rattle.ms_object.specs.Labels.{IsLabel}
 use Rattle.ms_object.specs.Trees.{FileText}
 use Rattle.ms_tree.specs.Files.{IsFile, IsFiles, text_at}
+use Rattle.std.specs.Prelude.{find, nat_lt}
+use Rattle.std.proofs.lemmas.Bool.{ltb-false}
+use Rattle.ms_object.specs.Objects.{most_file}
+use Rattle.ms_tree.specs.Planting.{first_large}
 use Rattle.ms_tree.specs.Folders.{IsFolder, IsFileBelow}
 use Rattle.ms_tree.specs.Paths.{IsPart, parts_of}
 use Rattle.ms_tree.specs.Planting.{first_part}
 use Rattle.ms_tree.proofs.Cutting.{IsClear, rest_of, path_cases, first_part_clear}
 use Rattle.ms_tree.proofs.FileLaws.{text_at-place}
 use Rattle.ms_tree.proofs.Inside.{drop_part, parts_of_cut, parts_of_whole}
-use Rattle.ms_tree.proofs.Members.{all_from}
+use Rattle.ms_tree.proofs.Members.{in_cases, all_from}
 
 slash_at : (part rest : List ℕ) → get_or (part ++ 47 ∷ rest) (length part) 0 < 128
 slash_at part rest = let e : get_or (part ++ 47 ∷ rest) (length part) 0 ≡ 47 = get_or_at part 47 rest 0 (length part) refl in omega (arith, e)
@@ -75,13 +80,13 @@ label_from part text clear is short = record {
   no_nul = is.no_nul;
 }
 
-pub file_below : (path text : List ℕ) → IsFile path text → IsFileBelow 64 (path, text)
-file_below path text is = record {
+pub file_below : (format : Format) (path text : List ℕ) → IsFile path text → length text ≤ most_file format → IsFileBelow format 64 (path, text)
+file_below format path text is fit = record {
   labels = all_from IsLabel (parts_of path) (λ part has.
       let t = All-contains IsTextPart (parts_of path) part (text_parts (length path) path (omega arith) is.path_is.utf8) has in
       label_from part t.0 t.1 (All-contains IsPart (parts_of path) part is.path_is.parts has) (All-contains (λ p. length p ≤ 200) (parts_of path) part is.parts_short has));
   levels = is.levels;
-  fits = is.text_short;
+  fits = fit;
 }
 
 place_of : (files : List FileText) (k : ℕ) (file : FileText) → k < length files → get_or files k file ≡ file → slice_get files k ≡ Some file
@@ -92,10 +97,22 @@ place_of (first ∷ files) (suc k) file below e = place_of files k file (omega a
 pub text_here : (files : List FileText) → IsFiles files → (file : FileText) → Contains files file → text_at files file.0 ≡ Some file.1
 text_here files is file has = text_at-place files has.0 file.0 file.1 is.rising (place_of files has.0 file has.1 has.2)
 
-pub whole_folder : (files : List FileText) → IsFiles files → IsFolder 64 files
-whole_folder files is = record {
+-- no file is larger than what is looked for
+none_larger : (most : ℕ) (files : List FileText) → find (nat_lt most) (map (λ file. length file.1) files) ≡ None → (file : FileText) → Contains files file → length file.1 ≤ most
+none_larger most [] none file has = absurd (omega (arith, has.1))
+none_larger most (first ∷ files) none file has = by (nat_lt most (length first.1)) refl none
+  where
+    by : (b : Bool) → nat_lt most (length first.1) ≡ b → cond b (Some (length first.1)) (find (nat_lt most) (map (λ file. length file.1) files)) ≡ None → length file.1 ≤ most
+    by true e n = absurd (let q : Some (length first.1) ≡ None = n in cc)
+    by false e n = elim (in_cases first files file has) [
+      | inl same ↦ subst (λ (f : FileText). length f.1 ≤ most) same (ltb-false most (length first.1) e)
+      | inr later ↦ none_larger most files n file later
+    ]
+
+pub whole_folder : (format : Format) (files : List FileText) → IsFiles files → first_large format files ≡ None → IsFolder format 64 files
+whole_folder format files is none = record {
   rising = is.rising;
   apart = λ dir file hd hf d. is.apart dir.0 file.0 (rw (text_here files is dir hd) refl) (rw (text_here files is file hf) refl) d;
-  each = all_from (IsFileBelow 64) files (λ file has. file_below file.0 file.1 (is.each file.0 file.1 (text_here files is file has)));
+  each = all_from (IsFileBelow format 64) files (λ file has. file_below format file.0 file.1 (is.each file.0 file.1 (text_here files is file has)) (none_larger (most_file format) files none file has));
   few = is.count;
 }

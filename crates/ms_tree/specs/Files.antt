@@ -46,7 +46,7 @@ path_limits path =
 -- the limits on a text, and on the files once they have it
 abbrev pub size_limits : List ℕ → FileList → Result Unit FilesError
 size_limits text after =
-    on_ok (within quantities.File (length text) 67108864) (λ _.
+    on_ok (within quantities.File (length text) 1073741824) (λ _.
     on_ok (within quantities.Files (length after) 100000) (λ _.
     within quantities.Total (total_of after) 1073741824))
 
@@ -71,7 +71,7 @@ pub record IsFile (path text : List ℕ) : Type 0 where
   pub path_short : length path ≤ 1024
   pub parts_short : All (λ part. length part ≤ 200) (parts_of path)
   pub levels : length (parts_of path) ≤ 64
-  pub text_short : length text ≤ 67108864
+  pub text_short : length text ≤ 1073741824
 
 -- the paths rise by their bytes, none is a directory of another, and all limits are kept
 pub record IsFiles (files : FileList) : Type 0 where

@@ -3,9 +3,10 @@ use Rattle.std.specs.Prelude.{◌≡◌, ◌≢◌, ◌↔◌, ◌⊎◌, ℕ, z
 use Rattle.ms_base.specs.declared.names.Quantity.TheVariants as quantities
 use Rattle.ms_object.specs.declared.fault.GatherError.{GatherError}
 use Rattle.ms_object.specs.declared.fault.GatherError.TheVariants as faults
-use Rattle.ms_object.specs.declared.object.Row.{Row}
+use Rattle.ms_object.specs.declared.format.Format.{Format}
+use Rattle.ms_object.specs.declared.object.SizedRow.{SizedRow}
 use Rattle.ms_object.specs.Labels.{IsLabel}
-use Rattle.ms_object.specs.Trees.{Texts, FileText, Met, or_fault, if_short, met_by_kind, walk_rows, first_fault}
+use Rattle.ms_object.specs.Trees.{Texts, FileText, Met, bytes_met, or_fault, if_short, met_by_kind, walk_rows, with_size, size_fault, first_fault}
 use Rattle.ms_tree.specs.Paths.{parts_of, long_part, is_path}
 use Rattle.ms_tree.specs.Files.{total_of}
 
@@ -33,15 +34,26 @@ pub record IsFilePath (path : List ℕ) : Type 0 where
   pub parts_short : long_part (parts_of path) ≤ 200
   pub levels : length (parts_of path) ≤ 64
 
+-- what a walk meets at one row, before its size is judged
+unfoldable pub row_below : Format → ℕ → Texts → List ℕ → SizedRow → List Met
+row_below format zero store before row = if_short (before ++ row.label) (Err (faults.Limit quantities.Levels 65) ∷ [])
+row_below format (suc left) store before row = if_short (before ++ row.label) (met_by_kind format (walk_rows format left store) store (before ++ row.label) row.name row.kind)
+
 -- what a walk meets at one row
-unfoldable pub row_met : ℕ → Texts → List ℕ → Row → List Met
-row_met zero store before row = if_short (before ++ row.label) (Err (faults.Limit quantities.Levels 65) ∷ [])
-row_met (suc left) store before row = if_short (before ++ row.label) (met_by_kind (walk_rows left store) store (before ++ row.label) row.name row.kind)
+unfoldable pub row_met : Format → ℕ → Texts → List ℕ → SizedRow → List Met
+row_met format zero store before row = row_below format zero store before row
+row_met format (suc left) store before row = with_size format row (row_below format (suc left) store before row)
+
+-- the row says that so many bytes lie below it, or says no size
+abbrev pub SaysSize : Format → SizedRow → ℕ → Result Unit GatherError → Type 0
+SaysSize format row bytes (Ok _) = size_fault format row bytes ≡ []
+SaysSize format row bytes (Err e) = size_fault format row bytes ≡ Err e ∷ []
 
 -- from the old files to the new ones no fault was met, and each file that was met is there
 pub record Gathers (old new : List FileText) (met : List Met) : Type 0 where
   pub goes_on : (more : List Met) → first_fault (length old) (total_of old) (met ++ more) ≡ first_fault (length new) (total_of new) more
   pub found : (file : FileText) → Contains new file ↔ (Contains old file ⊎ Contains met (Ok file))
+  pub bytes : total_of new ≡ total_of old + bytes_met met
 
 -- after the old files this fault comes first, or memory ran out
 abbrev pub StopsAt : List FileText → List Met → GatherError → Type 0
@@ -59,5 +71,5 @@ abbrev pub IsFree : List FileText → List ℕ → Type 0
 IsFree files path = (file : FileText) → Contains files file → Differ (file.0 ++ 47 ∷ []) (path ++ 47 ∷ [])
 
 -- the paths of these rows are free
-abbrev pub AreFree : List FileText → List ℕ → List Row → Type 0
+abbrev pub AreFree : List FileText → List ℕ → List SizedRow → Type 0
 AreFree files before rows = All (λ row. IsFree files (before ++ row.label)) rows

@@ -1,5 +1,5 @@
 -- The objects of a folder: the texts of its blobs, files and directories, and the name of its root.
-use Rattle.std.specs.Prelude.{◌≡◌, ◌≢◌, ℕ, zero, suc, ◌+◌, ◌==◌, List, [], ◌∷◌, ◌++◌, length, map, take, drop, flat_map, filter_map, bytes_eq, Contains, IsSome, ◌⊎◌, Option, Some, None, if◌then◌else◌}
+use Rattle.std.specs.Prelude.{◌≡◌, ◌≢◌, ℕ, zero, suc, ◌+◌, ◌==◌, List, [], ◌∷◌, ◌++◌, length, map, take, drop, flat_map, filter_map, bytes_eq, Contains, IsSome, ◌⊎◌, nat_lt, find, Option, Some, None, Result, Ok, Err, if◌then◌else◌}
 use Rattle.std.specs.List.{before_first, list_any}
 use Rattle.std.specs.Ordering.{is_lt, nat_cmp}
 use Rattle.std.specs.Cmp.Lexicographic.{slice_cmp}
@@ -7,25 +7,33 @@ use Rattle.sha2.specs.Sha256.{sha256}
 use Rattle.ms_base.specs.declared.names.Name.{Name}
 use Rattle.ms_object.specs.declared.object.Kind.TheVariants as kinds
 use Rattle.ms_object.specs.declared.object.Object.TheVariants as objects
+use Rattle.ms_object.specs.declared.format.Format.{Format}
+use Rattle.ms_object.specs.declared.format.Format.TheVariants as formats
+use Rattle.ms_object.specs.declared.object.Object.{Object}
 use Rattle.ms_object.specs.declared.object.Row.{Row}
-use Rattle.ms_object.specs.Objects.{object_text, blob_size, blobs_in}
+use Rattle.ms_object.specs.declared.object.SizedRow.{SizedRow}
+use Rattle.ms_object.specs.Objects.{object_text, blob_object, blob_size, blobs_in, file_object, most_file}
 use Rattle.ms_object.specs.Trees.{FileText, Texts, IsTree}
+use Rattle.ms_base.specs.declared.names.Quantity.TheVariants as quantities
+use Rattle.ms_tree.specs.declared.planting.PlantError.{PlantError}
+use Rattle.ms_tree.specs.declared.planting.PlantError.TheVariants as errors
+use Rattle.ms_tree.specs.Files.{total_of}
 
 abbrev pub named : List ℕ → Name
 named text = record { 0 = sha256 text }
 
--- so many pieces of 65,536 bytes; the last has the rest
-abbrev pub pieces : ℕ → List ℕ → List (List ℕ)
-pieces zero bytes = []
-pieces (suc count) bytes = take blob_size bytes ∷ pieces count (drop blob_size bytes)
+-- so many pieces of the size of a blob; the last has the rest
+abbrev pub pieces : Format → ℕ → List ℕ → List (List ℕ)
+pieces format zero bytes = []
+pieces format (suc count) bytes = take (blob_size format) bytes ∷ pieces format count (drop (blob_size format) bytes)
 
 -- the texts of the blobs of a file
-abbrev pub blob_texts : List ℕ → List (List ℕ)
-blob_texts bytes = map (λ piece. object_text (objects.Blob piece)) (pieces (blobs_in (length bytes)) bytes)
+abbrev pub blob_texts : Format → List ℕ → List (List ℕ)
+blob_texts format bytes = map (λ piece. object_text (blob_object format piece)) (pieces format (blobs_in format (length bytes)) bytes)
 
 -- the text of the file object
-abbrev pub file_text : List ℕ → List ℕ
-file_text bytes = object_text (objects.File (length bytes) (map named (blob_texts bytes)))
+abbrev pub file_text : Format → List ℕ → List ℕ
+file_text format bytes = object_text (file_object format (length bytes) (map named (blob_texts format bytes)))
 
 -- the first part of a path
 abbrev pub first_part : List ℕ → List ℕ
@@ -57,33 +65,48 @@ abbrev pub first_parts : List FileText → List (List ℕ)
 first_parts [] = []
 first_parts (file ∷ files) = with_part (first_part file.0) (first_parts files)
 
--- the row of a part: a file of that path, or a directory with that text
-abbrev pub row_of : List ℕ → Option (List ℕ) → List ℕ → Row
-row_of part (Some bytes) directory = record { kind = kinds.File; label = part; name = named (file_text bytes) }
-row_of part None directory = record { kind = kinds.Dir; label = part; name = named directory }
+-- a row of format 1 says no size
+abbrev pub size_said : Format → ℕ → ℕ
+size_said formats.One bytes = 0
+size_said formats.Two bytes = bytes
+
+abbrev pub plain : SizedRow → Row
+plain row = record { kind = row.kind; label = row.label; name = row.name }
+
+-- the directory of these rows
+abbrev pub dir_object : Format → List SizedRow → Object
+dir_object formats.One rows = objects.Dir (map plain rows)
+dir_object formats.Two rows = objects.Dir2 rows
+
+-- the row of a part: a file of that path, or a directory with that text, below which there are so many bytes
+abbrev pub row_of : Format → List ℕ → Option (List ℕ) → ℕ → List ℕ → SizedRow
+row_of format part (Some bytes) total directory = record { kind = kinds.File; label = part; size = size_said format (length bytes); name = named (file_text format bytes) }
+row_of format part None total directory = record { kind = kinds.Dir; label = part; size = size_said format total; name = named directory }
 
 -- the text of the directory of these files, whose paths have so many parts at most
-unfoldable pub directory_text : ℕ → List FileText → List ℕ
-directory_text zero files = object_text (objects.Dir [])
-directory_text (suc left) files = object_text (objects.Dir (map (λ part. row_of part (file_at files part) (directory_text left (files_below files part))) (first_parts files)))
+unfoldable pub directory_text : Format → ℕ → List FileText → List ℕ
+directory_text format zero files = object_text (dir_object format [])
+directory_text format (suc left) files =
+    object_text (dir_object format (map (λ part. row_of format part (file_at files part) (total_of (files_below files part)) (directory_text format left (files_below files part))) (first_parts files)))
 
 -- the row of a part of these files
-abbrev pub part_row : ℕ → List FileText → List ℕ → Row
-part_row left files part = row_of part (file_at files part) (directory_text left (files_below files part))
+abbrev pub part_row : Format → ℕ → List FileText → List ℕ → SizedRow
+part_row format left files part = row_of format part (file_at files part) (total_of (files_below files part)) (directory_text format left (files_below files part))
 
 -- the texts of the objects of a part: of its file, or those of its directory
-abbrev pub file_texts : Option (List ℕ) → List (List ℕ) → List (List ℕ)
-file_texts (Some bytes) directories = blob_texts bytes ++ file_text bytes ∷ []
-file_texts None directories = directories
+abbrev pub file_texts : Format → Option (List ℕ) → List (List ℕ) → List (List ℕ)
+file_texts format (Some bytes) directories = blob_texts format bytes ++ file_text format bytes ∷ []
+file_texts format None directories = directories
 
 -- the texts of all objects of these files, the directory's last
-unfoldable pub object_texts : ℕ → List FileText → List (List ℕ)
-object_texts zero files = directory_text zero files ∷ []
-object_texts (suc left) files = flat_map (λ part. file_texts (file_at files part) (object_texts left (files_below files part))) (first_parts files) ++ directory_text (suc left) files ∷ []
+unfoldable pub object_texts : Format → ℕ → List FileText → List (List ℕ)
+object_texts format zero files = directory_text format zero files ∷ []
+object_texts format (suc left) files =
+    flat_map (λ part. file_texts format (file_at files part) (object_texts format left (files_below files part))) (first_parts files) ++ directory_text format (suc left) files ∷ []
 
 -- the texts of all objects of a part of these files
-abbrev pub part_texts : ℕ → List FileText → List ℕ → List (List ℕ)
-part_texts left files part = file_texts (file_at files part) (object_texts left (files_below files part))
+abbrev pub part_texts : Format → ℕ → List FileText → List ℕ → List (List ℕ)
+part_texts format left files part = file_texts format (file_at files part) (object_texts format left (files_below files part))
 
 -- two different texts with one SHA-256
 pub record Collide (texts : List (List ℕ)) : Type 0 where
@@ -111,7 +134,17 @@ different [] = 0
 different (text ∷ texts) = if list_any (bytes_eq text) texts then different texts else 1 + different texts
 
 -- what is planted of these files: the name of the root and all objects; it is their tree, unless two texts collide
-pub record IsPlanted (files : List FileText) (store : Texts) (root : Name) : Type 0 where
-  pub root_is : root ≡ named (directory_text 64 files)
-  pub objects : HoldsTexts store (object_texts 64 files)
-  pub tree : Collide (object_texts 64 files) ⊎ IsTree store root files
+pub record IsPlanted (format : Format) (files : List FileText) (store : Texts) (root : Name) : Type 0 where
+  pub root_is : root ≡ named (directory_text format 64 files)
+  pub objects : HoldsTexts store (object_texts format 64 files)
+  pub tree : Collide (object_texts format 64 files) ⊎ IsTree store root files
+
+-- the first file that has too many bytes for the format
+abbrev pub first_large : Format → List FileText → Option ℕ
+first_large format files = find (nat_lt (most_file format)) (map (λ file. length file.1) files)
+
+-- no file is too large for the format, or the first that is
+abbrev pub MayPlant : Format → List FileText → Result Unit PlantError → Type 0
+MayPlant format files (Ok _) = first_large format files ≡ None
+MayPlant format files (Err (errors.Limit what value)) = (what ≡ quantities.File) × (first_large format files ≡ Some value)
+MayPlant format files (Err errors.NoMemory) = first_large format files ≡ None

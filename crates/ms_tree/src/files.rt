@@ -1,6 +1,6 @@
 //! Files by their paths.
 
-ghost use Rattle.std.specs.Prelude.{◌≡◌, ◌+◌, ℕ, List, [], length, map, is_some, Some, None, Ok, IfOk, bytes_eq, if◌then◌else◌, OnErr, OnOk, slice_get};
+ghost use Rattle.std.specs.Prelude.{◌≡◌, ◌+◌, ℕ, List, [], length, map, is_some, Some, None, Ok, IfOk, bytes_eq, if◌then◌else◌, OnErr, OnOk, slice_get, nat_lt, find};
 ghost use Rattle.std.specs.Option.{option_map, option_copied};
 ghost use Rattle.std.specs.List.{list_any};
 ghost use Rattle.ms_tree.specs.Paths.{is_directory_of};
@@ -143,6 +143,14 @@ impl Files {
             Some(path) => Some(path.as_str()),
             None => None,
         }
+    }
+
+    /// The bytes of the first file, in rising order of the paths, that has more than so many.
+    pub fn first_above(&self, most: u64) -> Option<u64>
+        ensures { result ≡ find (nat_lt most) (map (λ f. length f.1) self.now) }
+    {
+        let mut sizes = self.map.values().map(|text| text.as_slice().len() as u64);
+        sizes.find(|bytes| *bytes > most)
     }
 
     /// All files in rising order of their paths, without copies of their texts.

@@ -1,6 +1,6 @@
 //! Gathering the files of a tree from a store.
 
-ghost use Rattle.std.specs.Prelude.{◌≡◌, ◌⊎◌, ◌≤◌, ◌∷◌, [], ◌++◌, length, take, List, Some, Ok, Err, IfOk, IfErr, OnOk};
+ghost use Rattle.std.specs.Prelude.{◌≡◌, ◌⊎◌, ◌≤◌, ◌∷◌, [], ◌++◌, length, map, take, List, Some, Ok, Err, IfOk, IfErr, IfSome, OnOk, option_map};
 ghost use Rattle.std.specs.Result.{result_map_both};
 ghost use Rattle.std.specs.Map.{keys_of};
 ghost use Rattle.std.specs.Ordering.{nat_cmp};
@@ -8,42 +8,44 @@ ghost use Rattle.std.specs.Cmp.Lexicographic.{slice_cmp};
 ghost use Rattle.std.specs.List.Sorted.{IsStrictlySortedBy};
 ghost use Rattle.ms_base.specs.declared.names.Name.{Name};
 ghost use Rattle.ms_object.specs.declared.fault.GatherError.TheVariants as faults;
-ghost use Rattle.ms_object.specs.Objects.{IsObject, IsDir, blob_size, most_file};
+ghost use Rattle.ms_object.specs.declared.format.Format.{Format};
+ghost use Rattle.ms_object.specs.Objects.{IsDir, IsObject, IsSizedDir, most_file};
 ghost use Rattle.ms_object.specs.Labels.{IsLabel};
 ghost use Rattle.ms_object.specs.Reading.{object_at};
 ghost use Rattle.ms_object.specs.Stores.{text_of};
-ghost use Rattle.ms_object.specs.Trees.{FileText, Texts, IsTree, or_fault, object_named as object_in, object_or_fault, rows_of, inner_rows_of, blob_of, blobs_joined, file_named, met_file, first_fault, walk, walk_rows};
+ghost use Rattle.ms_object.specs.Trees.{FileText, Texts, IsTree, or_fault, object_named as object_in, object_or_fault, top_of, inner_rows_of, blob_of, blobs_joined, file_in, file_named, met_file, rows_in, first_fault, unsized, walk, walk_rows};
 ghost use Rattle.ms_tree.specs.Files.{IsFiles};
 ghost use Rattle.ms_tree.specs.Planting.{Collide, IsPlanted, object_texts};
-ghost use Rattle.ms_tree.specs.Gathering.{Gives, IsFront, IsFilePath, IsFree, AreFree, Gathers, StopsAt, row_met};
+ghost use Rattle.ms_tree.specs.Gathering.{Gives, IsFront, IsFilePath, IsFree, AreFree, Gathers, SaysSize, StopsAt, row_below, row_met};
 
 use crate::files::Files;
 use crate::limits::{FilesError, MOST_LEVELS, MOST_PATH};
-use ms_base::{Bytes, Name, Quantity};
+use ms_base::{Bytes, Items, Name, NoMemory, Quantity};
 use ms_object::object::one_spelling;
-use ms_object::{GatherError, Kind, Object, ObjectError, Row, Rows, Store, parse};
+use ms_object::{
+    Format, GatherError, Kind, Names, Object, ObjectError, Rows, SizedRow, SizedRows, Store,
+    blob_in, parse,
+};
 use std::alloc::Global;
 
-/// The bytes of each blob of a file but its last.
-const BLOB_SIZE: u64 = 65_536;
-
-/// The files of the tree below the root of that name. The first fault of a walk refuses it:
-/// `docs/FORMATS.md`, objects.
+/// The files of the tree below the root of that name, whose format all objects of the tree have. The first fault of a
+/// walk refuses it: `docs/FORMATS.md`, objects.
 pub fn gather(alloc: Global, store: &Store, root: &Name) -> Result<Files, GatherError>
     ensures ok { IfOk result (λ files. IsTree (text_of store.now) root.now files) }
     ensures fault { IfErr result (λ e. (e ≡ faults.NoMemory) ⊎ (first_fault 0 0 (walk (text_of store.now) root.now) ≡ Some e)) }
     // What was planted of files gives them back.
-    ensures back { (files : List FileText) → IsFiles files → IsPlanted files (text_of store.now) root.now
-        → Collide (object_texts 64 files) ⊎ (result ≡ Ok files) ⊎ (result ≡ Err faults.NoMemory) }
+    ensures back { (format : Format) (files : List FileText) → IsFiles files → IsPlanted format files (text_of store.now) root.now
+        → Collide (object_texts format 64 files) ⊎ (result ≡ Ok files) ⊎ (result ≡ Err faults.NoMemory) }
 {
-    let rows = rows_named(alloc, store, root)?;
+    let top = top_named(alloc, store, root)?;
     let mut path = Vec::new(alloc);
     let mut files = Files::new(alloc);
     gather_rows(
         alloc,
         store,
+        top.format,
         MOST_LEVELS,
-        rows.as_slice(),
+        top.rows.as_slice(),
         &mut path,
         &mut files,
     )?;
@@ -57,41 +59,66 @@ pub fn gather(alloc: Global, store: &Store, root: &Name) -> Result<Files, Gather
 fn gather_rows(
     alloc: Global,
     store: &Store,
+    format: Format,
     left: u64,
-    rows: &[Row],
+    rows: &[SizedRow],
     path: &mut Vec<u8>,
     files: &mut Files,
 ) -> Result<(), GatherError>
     requires front { IsFront left path.old.items }
-    requires rows { IsDir rows.now }
+    requires rows { IsSizedDir rows.now }
     requires free { AreFree files.old path.old.items rows.now }
-    ensures ok { OnOk result (Gathers files.old files.new (walk_rows left (text_of store.now) path.old.items rows.now)) }
-    ensures err { IfErr result (StopsAt files.old (walk_rows left (text_of store.now) path.old.items rows.now)) }
+    ensures ok { OnOk result (Gathers files.old files.new (walk_rows format left (text_of store.now) path.old.items rows.now)) }
+    ensures err { IfErr result (StopsAt files.old (walk_rows format left (text_of store.now) path.old.items rows.now)) }
     ensures path { OnOk result (path.new.items ≡ path.old.items) }
 {
     let before = path.len();
     for row in rows {
-        gather_row(alloc, store, left, row, path, files)?;
+        gather_judged(alloc, store, format, left, row, path, files)?;
         path.truncate(before);
     }
     Ok(())
 }
 
-/// Gathers what stands at a row, and lets `path` go on with that.
+/// Gathers what stands at a row, and judges then the size that the row says. Lets `path` go on.
 #[cycle(gather_rows)]
-fn gather_row(
+fn gather_judged(
     alloc: Global,
     store: &Store,
+    format: Format,
     left: u64,
-    row: &Row,
+    row: &SizedRow,
     path: &mut Vec<u8>,
     files: &mut Files,
 ) -> Result<(), GatherError>
     requires front { IsFront left path.old.items }
     requires label { IsLabel row.now.label }
     requires free { IsFree files.old (path.old.items ++ row.now.label) }
-    ensures ok { OnOk result (Gathers files.old files.new (row_met left (text_of store.now) path.old.items row.now)) }
-    ensures err { IfErr result (StopsAt files.old (row_met left (text_of store.now) path.old.items row.now)) }
+    ensures ok { OnOk result (Gathers files.old files.new (row_met format left (text_of store.now) path.old.items row.now)) }
+    ensures err { IfErr result (StopsAt files.old (row_met format left (text_of store.now) path.old.items row.now)) }
+    ensures path { OnOk result (take (length path.old.items) path.new.items ≡ path.old.items) }
+{
+    let before = files.total();
+    gather_row(alloc, store, format, left, row, path, files)?;
+    check_size(format, row, files.total() - before)
+}
+
+/// Gathers what stands at a row, whatever size it says, and lets `path` go on with that.
+#[cycle(gather_rows)]
+fn gather_row(
+    alloc: Global,
+    store: &Store,
+    format: Format,
+    left: u64,
+    row: &SizedRow,
+    path: &mut Vec<u8>,
+    files: &mut Files,
+) -> Result<(), GatherError>
+    requires front { IsFront left path.old.items }
+    requires label { IsLabel row.now.label }
+    requires free { IsFree files.old (path.old.items ++ row.now.label) }
+    ensures ok { OnOk result (Gathers files.old files.new (row_below format left (text_of store.now) path.old.items row.now)) }
+    ensures err { IfErr result (StopsAt files.old (row_below format left (text_of store.now) path.old.items row.now)) }
     ensures path { OnOk result (take (length path.old.items) path.new.items ≡ path.old.items) }
 {
     path.extend_from_slice(row.label.as_slice())?;
@@ -109,11 +136,27 @@ fn gather_row(
         });
     }
     match row.kind {
-        Kind::File => add_file(alloc, store, &row.name, path.as_slice(), files),
+        Kind::File => add_file(alloc, store, format, &row.name, path.as_slice(), files),
         Kind::Dir => {
-            let rows = inner_rows(alloc, store, &row.name)?;
+            let rows = inner_rows(alloc, store, format, &row.name)?;
             path.push(b'/')?;
-            gather_rows(alloc, store, left - 1, rows.as_slice(), path, files)
+            let rows = rows.as_slice();
+            gather_rows(alloc, store, format, left - 1, rows, path, files)
+        }
+    }
+}
+
+/// Refuses a row of format 2 that says another size than the bytes below it.
+fn check_size(format: Format, row: &SizedRow, bytes: u64) -> Result<(), GatherError>
+    ensures { SaysSize format row.now bytes result }
+{
+    match format {
+        Format::One => Ok(()),
+        Format::Two => {
+            if row.size != bytes {
+                return Err(GatherError::WrongKind { name: row.name });
+            }
+            Ok(())
         }
     }
 }
@@ -122,16 +165,17 @@ fn gather_row(
 fn add_file(
     alloc: Global,
     store: &Store,
+    format: Format,
     name: &Name,
     path: &[u8],
     files: &mut Files,
 ) -> Result<(), GatherError>
     requires path { IsFilePath path.now }
     requires free { IsFree files.old path.now }
-    ensures ok { OnOk result (Gathers files.old files.new (met_file path.now (file_named (text_of store.now) name.now) ∷ [])) }
-    ensures err { IfErr result (StopsAt files.old (met_file path.now (file_named (text_of store.now) name.now) ∷ [])) }
+    ensures ok { OnOk result (Gathers files.old files.new (met_file path.now (file_named format (text_of store.now) name.now) ∷ [])) }
+    ensures err { IfErr result (StopsAt files.old (met_file path.now (file_named format (text_of store.now) name.now) ∷ [])) }
 {
-    let text = file_bytes(alloc, store, name)?;
+    let text = file_bytes(alloc, store, format, name)?;
     let path = str::from_utf8(path).unwrap();
     match files.add(path, text) {
         Ok(()) => Ok(()),
@@ -142,29 +186,62 @@ fn add_file(
     }
 }
 
+/// A file: its size, and the blobs that have its bytes.
+#[derive(Drop)]
+struct FileParts {
+    size: u64,
+    blobs: Names,
+}
+
+/// What the object of a file says, where it is one of that format.
+fn file_parts(format: Format, object: Object) -> Option<FileParts>
+    requires { IsObject object }
+    ensures parts { option_map (λ f. (f.size, f.blobs)) result ≡ file_in format object }
+    ensures fits { IfSome result (λ f. f.size ≤ most_file format) }
+{
+    match (format, object) {
+        (Format::One, Object::File { size, blobs }) => Some(FileParts { size, blobs }),
+        (Format::Two, Object::File2 { size, blobs }) => Some(FileParts { size, blobs }),
+        _ => None,
+    }
+}
+
 /// The bytes of the file of that name.
 #[tactic(auto, unfolding(ms_object::specs::Trees::file_named))]
-fn file_bytes(alloc: Global, store: &Store, name: &Name) -> Result<Bytes, GatherError>
-    ensures exact { Gives (file_named (text_of store.now) name.now) result }
-    ensures short { IfOk result (λ text. length text ≤ most_file) }
+fn file_bytes(
+    alloc: Global,
+    store: &Store,
+    format: Format,
+    name: &Name,
+) -> Result<Bytes, GatherError>
+    ensures exact { Gives (file_named format (text_of store.now) name.now) result }
+    ensures short { IfOk result (λ text. length text ≤ most_file format) }
 {
-    match object_named(alloc, store, name)? {
-        Object::File { size, blobs } => join_blobs(alloc, store, size, blobs.as_slice()),
-        _ => Err(GatherError::WrongKind { name: *name }),
+    let object = object_named(alloc, store, name)?;
+    match file_parts(format, object) {
+        Some(file) => join_blobs(alloc, store, format, file.size, file.blobs.as_slice()),
+        None => Err(GatherError::WrongKind { name: *name }),
     }
 }
 
 /// The bytes of blobs, which are so many together.
-fn join_blobs(alloc: Global, store: &Store, size: u64, blobs: &[Name]) -> Result<Bytes, GatherError>
-    requires { size ≤ most_file }
-    ensures exact { Gives (blobs_joined (text_of store.now) size blobs.now) result }
+fn join_blobs(
+    alloc: Global,
+    store: &Store,
+    format: Format,
+    size: u64,
+    blobs: &[Name],
+) -> Result<Bytes, GatherError>
+    requires { size ≤ most_file format }
+    ensures exact { Gives (blobs_joined format (text_of store.now) size blobs.now) result }
     ensures short { IfOk result (λ text. length text ≤ size) }
 {
     let mut text = Vec::with_capacity(alloc, size as usize)?;
     let mut left = size;
+    let most = format.blob_bytes();
     for blob in blobs {
-        let wanted = BLOB_SIZE.min(left);
-        match blob_named(store, blob, wanted as usize) {
+        let wanted = most.min(left);
+        match blob_named(store, format, blob, wanted) {
             Ok(bytes) => text.extend_from_slice(bytes)?,
             Err(error) => return Err(error),
         }
@@ -174,47 +251,107 @@ fn join_blobs(alloc: Global, store: &Store, size: u64, blobs: &[Name]) -> Result
 }
 
 /// The bytes of the blob of that name, which has so many.
-fn blob_named<'a>(store: &'a Store, name: &Name, size: usize) -> Result<&'a [u8], GatherError>
-    requires { size ≤ blob_size }
-    ensures { or_fault (object_in (text_of store.now) name.now) (blob_of name.now size) ≡ result_map_both (λ x. x.now) (λ e. e) result }
+fn blob_named<'a>(
+    store: &'a Store,
+    format: Format,
+    name: &Name,
+    size: u64,
+) -> Result<&'a [u8], GatherError>
+    ensures { or_fault (object_in (text_of store.now) name.now) (blob_of format name.now size) ≡ result_map_both (λ x. x.now) (λ e. e) result }
 {
     match store.get(name) {
-        Some(text) => read_blob(name, text, size),
+        Some(text) => read_blob(format, name, text, size),
         None => Err(GatherError::Missing { name: *name }),
     }
 }
 
 /// The bytes of the blob that the text of that name is.
-fn read_blob<'a>(name: &Name, text: &'a [u8], size: usize) -> Result<&'a [u8], GatherError>
-    requires { size ≤ blob_size }
-    ensures { or_fault (object_or_fault name.now (object_at text.now)) (blob_of name.now size) ≡ result_map_both (λ x. x.now) (λ e. e) result }
+fn read_blob<'a>(
+    format: Format,
+    name: &Name,
+    text: &'a [u8],
+    size: u64,
+) -> Result<&'a [u8], GatherError>
+    ensures { or_fault (object_or_fault name.now (object_at text.now)) (blob_of format name.now size) ≡ result_map_both (λ x. x.now) (λ e. e) result }
 {
-    one_spelling();
-    if text.len() != size + 1 || text[0] != b'B' {
+    let Some(bytes) = blob_in(format, text) else {
+        return Err(GatherError::WrongKind { name: *name });
+    };
+    if bytes.len() as u64 != size {
         return Err(GatherError::WrongKind { name: *name });
     }
-    Ok(&text[1..])
+    Ok(bytes)
 }
 
-/// The rows of the directory of that name, which has some.
-fn inner_rows(alloc: Global, store: &Store, name: &Name) -> Result<Rows, GatherError>
-    ensures exact { Gives (or_fault (object_in (text_of store.now) name.now) (inner_rows_of name.now)) result }
-    ensures rows { IfOk result IsDir }
+/// The rows of the directory of that format and name, which has some.
+fn inner_rows(
+    alloc: Global,
+    store: &Store,
+    format: Format,
+    name: &Name,
+) -> Result<SizedRows, GatherError>
+    ensures exact { Gives (or_fault (object_in (text_of store.now) name.now) (inner_rows_of format name.now)) result }
+    ensures rows { IfOk result IsSizedDir }
 {
-    let rows = rows_named(alloc, store, name)?;
+    let object = object_named(alloc, store, name)?;
+    let Some(rows) = rows_of(alloc, format, object)? else {
+        return Err(GatherError::WrongKind { name: *name });
+    };
     if rows.len() == 0 {
         return Err(GatherError::WrongKind { name: *name });
     }
     Ok(rows)
 }
 
-/// The rows of the directory of that name.
-fn rows_named(alloc: Global, store: &Store, name: &Name) -> Result<Rows, GatherError>
-    ensures exact { Gives (or_fault (object_in (text_of store.now) name.now) (rows_of name.now)) result }
-    ensures rows { IfOk result IsDir }
+/// The rows of a directory, where the object is one of that format.
+fn rows_of(alloc: Global, format: Format, object: Object) -> Result<Option<SizedRows>, NoMemory>
+    requires { IsObject object }
+    ensures rows { IfOk result (λ rows. rows ≡ rows_in format object) }
+    ensures dir { IfOk result (λ rows. IfSome rows IsSizedDir) }
+{
+    match (format, object) {
+        (Format::One, Object::Dir { rows }) => Ok(Some(without_sizes(alloc, rows)?)),
+        (Format::Two, Object::Dir2 { rows }) => Ok(Some(rows)),
+        _ => Ok(None),
+    }
+}
+
+/// The rows of a directory of format 1, which say no size.
+fn without_sizes(alloc: Global, rows: Rows) -> Result<SizedRows, NoMemory>
+    requires { IsDir rows }
+    ensures rows { IfOk result (λ sized. sized ≡ map unsized rows) }
+    ensures dir { IfOk result IsSizedDir }
+{
+    let sized = rows.into_vec().into_iter().map(|row| SizedRow {
+        kind: row.kind,
+        label: row.label,
+        size: 0,
+        name: row.name,
+    });
+    Ok(Items::from_vec(sized.collect(alloc)?))
+}
+
+/// The root of a tree: its format, and its rows.
+#[derive(Drop)]
+struct Top {
+    format: Format,
+    rows: SizedRows,
+}
+
+/// The directory of that name, of either format.
+fn top_named(alloc: Global, store: &Store, name: &Name) -> Result<Top, GatherError>
+    ensures exact { Gives (or_fault (object_in (text_of store.now) name.now) (top_of name.now)) (result_map_both (λ top. (top.format, top.rows)) (λ e. e) result) }
+    ensures rows { IfOk result (λ top. IsSizedDir top.rows) }
 {
     match object_named(alloc, store, name)? {
-        Object::Dir { rows } => Ok(rows),
+        Object::Dir { rows } => Ok(Top {
+            format: Format::One,
+            rows: without_sizes(alloc, rows)?,
+        }),
+        Object::Dir2 { rows } => Ok(Top {
+            format: Format::Two,
+            rows,
+        }),
         _ => Err(GatherError::WrongKind { name: *name }),
     }
 }

@@ -17,7 +17,7 @@ pub const MOST_PART: u64 = 200;
 pub const MOST_LEVELS: u64 = 64;
 
 /// The most bytes of a file.
-pub const MOST_FILE: u64 = 67_108_864;
+pub const MOST_FILE: u64 = 1_073_741_824;
 
 /// The most files.
 pub const MOST_FILES: u64 = 100_000;

@@ -35,7 +35,7 @@ pub fn merge_laws()
     ensures ours { (base ours theirs : FileList) (tag : List ℕ) (files : FileList) → MayMerge base ours theirs tag → IsMerge base ours theirs tag files → KeepsChanges base ours tag files }
     ensures theirs { (base ours theirs : FileList) (tag : List ℕ) (files : FileList) → MayMerge base ours theirs tag → IsMerge base ours theirs tag files → KeepsChanges base theirs tag files }
     ensures short { (base ours theirs : FileList) (tag : List ℕ) (files : FileList) → MayMerge base ours theirs tag → IsMerge base ours theirs tag files
-        → All (λ f. length f.1 ≤ 67108864) files }
+        → All (λ f. length f.1 ≤ 1073741824) files }
     ensures whole { (base ours theirs : FileList) (tag : List ℕ) (files : FileList) → MayMerge base ours theirs tag → (merge : IsMerge base ours theirs tag files)
         → KeepsLimits files (names_of merge) → IsFiles files }
     ensures exact { (base ours theirs : FileList) (tag : List ℕ) (files : FileList) (what : Quantity) (value : ℕ) → MayMerge base ours theirs tag → (merge : IsMerge base ours theirs tag files)

@@ -2,6 +2,7 @@
 
 ghost use Rattle.std.specs.Prelude.{◌≡◌, ◌≤◌, ◌==◌, ℕ, map, length, drop, bytes_eq, position, IfOk};
 ghost use Rattle.std.specs.List.{prefix_len};
+ghost use Rattle.ms_object.specs.declared.format.Format.{Format};
 ghost use Rattle.ms_tree.specs.Planting.{first_part};
 ghost use Rattle.ms_tree.specs.Folders.{IsFolder, Reach, shown_from, shown_part, split_files};
 
@@ -24,7 +25,7 @@ pub(crate) fn split_parts<'a>(
     skip: usize,
 ) -> Result<Vec<Part<'a>>, NoMemory>
     requires { Reach skip files.now }
-    ensures { (left : ℕ) → IsFolder left (shown_from skip files.now)
+    ensures { (format : Format) (left : ℕ) → IsFolder format left (shown_from skip files.now)
         → IfOk result (λ parts. map (shown_part skip) parts.items ≡ split_files (shown_from skip files.now)) }
 {
     let mut parts = Vec::new(alloc);

@@ -1,15 +1,13 @@
-use Rattle.std.proofs.Common.{arith}
-use Rattle.ms_tree.proofs.Named.{blob_is, not_as_long, not_tagged}
+use Rattle.std.proofs.Common.{sym, ap, ◌∙◌}
+use Rattle.ms_object.specs.Trees.{object_or_fault, of_size}
+use Rattle.ms_tree.proofs.Named.{blob_wanted, size_right, size_wrong}
 use Rattle.ms_tree.proofs.gathering.read_blob.Goals as goal
-use Rattle.ms_tree.proofs.gathering.read_blob.Goals.{then-text-size-via-then-text-size, then-text-size-via-else-text-size+then-text-ne66}
 
-pub returns-then-text-size : goal.returns-then-text-size
-returns-then-text-size c =
-    let text = c.args.text.now in
-    elim c.then-text-size.branch [
-      | then-text-size-via-then-text-size w ↦ not_as_long c.args.name.now c.args.size text (λ o e. c.one_spelling.ensures.read text o (λ i. omega (arith, c.type_inv.text i)) e) w.if-text-size.true
-      | then-text-size-via-else-text-size+then-text-ne66 w ↦ not_tagged c.args.name.now c.args.size text (λ o e. c.one_spelling.ensures.read text o (λ i. omega (arith, c.type_inv.text i)) e) w.if-text-ne66.true
-    ]
+pub returns-in_default : goal.returns-in_default
+returns-in_default c = blob_wanted c.args.format c.args.name.now c.args.size _ _ c.in_default.ensures
+
+pub returns-then-bytes-size : goal.returns-then-bytes-size
+returns-then-bytes-size c = blob_wanted c.args.format c.args.name.now c.args.size _ _ c.in-Some.ensures ∙ size_wrong c.args.name.now c.args.size c.in-Some.bytes.now c.if-bytes-size.true
 
 pub returns : goal.returns
-returns c = blob_is c.args.name.now c.args.size c.args.text.now (λ o h. c.one_spelling.ensures.again c.args.text.now o h) c.requires c.if-text-size.false c.if-text-ne66.false
+returns c = blob_wanted c.args.format c.args.name.now c.args.size _ _ c.in-Some.ensures ∙ size_right c.args.name.now c.args.size c.in-Some.bytes.now c.if-bytes-size.false

@@ -10,7 +10,7 @@ use Rattle.ms_tree.proofs.Shown.{counted, counted_within, front_bounds, counted_
 use Rattle.ms_tree.proofs.parts.split_parts.Goals as goal
 
 pub loop-start-init : goal.loop-start-init
-loop-start-init c = record { within = omega arith; groups = λ left w. none_shown c.args.skip c.args.files.now _ (ap (map (shown_part c.args.skip)) c.new-parts.ensures.items) }
+loop-start-init c = record { within = omega arith; groups = λ format left w. none_shown c.args.skip c.args.files.now _ (ap (map (shown_part c.args.skip)) c.new-parts.ensures.items) }
 
 pub slice_bounds-push-end : goal.slice_bounds-push-end
 slice_bounds-push-end c =
@@ -35,12 +35,12 @@ loop-start-preserved c =
     let count = counted c.part_at-label.result.now c.args.skip c.loop-start.start c.run_length-count.result c.args.files.now c.run_length-count.ensures in
     record {
       within = counted_within c.part_at-label.result.now c.args.skip c.loop-start.start c.run_length-count.result c.args.files.now c.loop-start.invariant.within count;
-      groups = λ left w.
-          let more = more_shown left c.args.skip c.loop-start.start c.run_length-count.result c.part_at-label.result.now c.args.files.now (map (shown_part c.args.skip) c.loop-start.parts.items) _ w c.loop-start-test.true (c.loop-start.invariant.groups left w) c.part_at-label.ensures count in
+      groups = λ format left w.
+          let more = more_shown format left c.args.skip c.loop-start.start c.run_length-count.result c.part_at-label.result.now c.args.files.now (map (shown_part c.args.skip) c.loop-start.parts.items) _ w c.loop-start-test.true (c.loop-start.invariant.groups format left w) c.part_at-label.ensures count in
           subst (λ gs. AreGroups (shown_from c.args.skip c.args.files.now) (take (c.loop-start.start + c.run_length-count.result) (shown_from c.args.skip c.args.files.now)) (drop (c.loop-start.start + c.run_length-count.result) (shown_from c.args.skip c.args.files.now)) gs)
           (sym (ap (map (shown_part c.args.skip)) c.in_ok-push.ensures.items ∙ map_push (shown_part c.args.skip) c.loop-start.parts.items _)) more;
     }
 
 pub returns : goal.returns
-returns c = λ left w. parts_sorted c.args.skip c.loop-start.start left c.args.files.now c.loop-start.parts.items c.sort_unstable_by.new.self.items w c.loop-start-test.false (c.loop-start.invariant.groups left w) c.sort_unstable_by.ensures.permutation
+returns c = λ format left w. parts_sorted format c.args.skip c.loop-start.start left c.args.files.now c.loop-start.parts.items c.sort_unstable_by.new.self.items w c.loop-start-test.false (c.loop-start.invariant.groups format left w) c.sort_unstable_by.ensures.permutation
     (c.sort_unstable_by.ensures.sorted (λ one other. is_lt (slice_cmp nat_cmp one.label.now other.label.now)) (ranks_by nat_list_cmp_total (λ (part : Part). part.label.now)) (answers_always _ _ _ (λ f a r g h. search rules)))

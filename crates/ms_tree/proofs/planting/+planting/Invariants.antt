@@ -11,4 +11,4 @@ abbrev pub decreases-plant_part : goal.decreases-plant_part
 decreases-plant_part l = 2 * l.left + 1
 
 abbrev pub invariant-plant_dir-loop-part : goal.invariant-plant_dir-loop-part
-invariant-plant_dir-loop-part l = ArePlanted l.left (shown_from l.skip l.files) l.part-index l.rows (text_of l.initial.store) (text_of l.store)
+invariant-plant_dir-loop-part l = ArePlanted l.format l.left (shown_from l.skip l.files) l.part-index l.rows (text_of l.initial.store) (text_of l.store)
