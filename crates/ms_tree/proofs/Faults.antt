@@ -14,7 +14,7 @@ use Rattle.ms_tree.specs.Files.{total_of}
 use Rattle.ms_tree.specs.Gathering.{Gathers, StopsAt}
 
 pub bytes_append : (x y : List Met) → bytes_met (x ++ y) ≡ bytes_met x + bytes_met y
-bytes_append [] y = refl
+bytes_append [] y = omega arith
 bytes_append (Err e ∷ x) y = bytes_append x y
 bytes_append (Ok file ∷ x) y = omega (arith, bytes_append x y)
 

@@ -30,6 +30,7 @@ mod Stored
 pub mod Pieces
 pub mod Meeting
 pub mod Grouping
+mod Large
 pub mod PlainRows
 mod PlantedFile
 pub mod PlantedTree

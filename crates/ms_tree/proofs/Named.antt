@@ -8,7 +8,7 @@ use Rattle.ms_object.specs.declared.fault.GatherError.{GatherError}
 use Rattle.ms_object.specs.declared.fault.GatherError.TheVariants as faults
 use Rattle.ms_object.specs.declared.object.Object.{Object}
 use Rattle.ms_object.specs.declared.format.Format.TheVariants as formats
-use Rattle.ms_object.specs.Objects.{Spells}
+use Rattle.ms_object.specs.Objects.{Spells, most_file}
 use Rattle.ms_object.specs.Reading.{blob_bytes, object_at}
 use Rattle.ms_object.specs.Trees.{Texts, or_fault, text_or_fault, object_or_fault, object_named, of_size, blob_of}
 
@@ -59,3 +59,8 @@ wanted_text {A} next store name text e = ap (λ (o : Result Object GatherError).
 
 pub wanted_nothing : {A : Type 0} (next : Object → Result A GatherError) (store : Texts) (name : Name) → store name.0 ≡ None → or_fault (object_named store name) next ≡ Err (faults.Missing name)
 wanted_nothing {A} next store name e = ap (λ (o : Result Object GatherError). or_fault o next) (nothing_named store name e)
+
+-- a file that fits a format fits among files
+pub fits_all : (format : Format) (n : ℕ) → n ≤ most_file format → n ≤ 1073741824
+fits_all formats.One n fits = omega (arith, fits)
+fits_all formats.Two n fits = omega (arith, fits)

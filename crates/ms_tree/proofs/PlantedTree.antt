@@ -108,11 +108,11 @@ total_below (file ∷ files) part = by (bytes_eq (take (length part + 1) file.0)
 
 text_small : (files : List FileText) (part bytes : List ℕ) → file_at files part ≡ Some bytes → length bytes ≤ total_of files
 text_small [] part bytes e = absurd cc
-text_small (file ∷ files) part bytes e = by (bytes_eq file.0 part) e
+text_small (file ∷ files) part bytes e = by (bytes_eq file.0 part) (text_small files part bytes) e
   where
-    by : (b : Bool) → (if b then Some file.1 else file_at files part) ≡ Some bytes → length bytes ≤ total_of (file ∷ files)
-    by true e = let same : file.1 ≡ bytes = cc in omega (arith, ap length same, sum_by-cons length file.1 (values_of files))
-    by false e = omega (arith, text_small files part bytes e, sum_by-cons length file.1 (values_of files))
+    by : (b : Bool) → (file_at files part ≡ Some bytes → length bytes ≤ total_of files) → (if b then Some file.1 else file_at files part) ≡ Some bytes → length bytes ≤ total_of (file ∷ files)
+    by true rest e = let same : file.1 ≡ bytes = cc in omega (arith, ap length same, sum_by-cons length file.1 (values_of files))
+    by false rest e = omega (arith, rest e, sum_by-cons length file.1 (values_of files))
 
 said_small : (format : Format) (n total : ℕ) → n ≤ total → size_said format n ≤ total
 said_small formats.One n total small = omega arith

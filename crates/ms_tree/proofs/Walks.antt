@@ -1,7 +1,7 @@
 -- What a walk meets, row by row, and where the paths that it meets stand.
 use Rattle.std.proofs.Common.{◌≡◌, ℕ, zero, suc, ◌-◌, ◌<◌, ◌≤◌, Bool, true, false, cond, ltb, nat_lt, List, [], ◌∷◌, ◌++◌, length, take, Contains, Result, Ok, Err, refl, sym, ap, subst, ◌∙◌, append_assoc, append-nil, arith, inl, inr}
 use Rattle.std.specs.List.{flat_map}
-use Rattle.std.specs.Prelude.{◌==◌, ◌+◌, Some, None}
+use Rattle.std.specs.Prelude.{◌==◌, ◌+◌, Some, None, OnOk, IfErr}
 use Rattle.ms_object.specs.declared.format.Format.TheVariants as formats
 use Rattle.std.proofs.lemmas.Bool.{lt-ltb, le-ltb}
 use Rattle.std.proofs.lemmas.List.{take_all}
@@ -16,7 +16,7 @@ use Rattle.ms_object.specs.declared.object.Kind.TheVariants as kinds
 use Rattle.ms_object.specs.declared.object.SizedRow.{SizedRow}
 use Rattle.ms_object.specs.Trees.{Texts, FileText, Met, bytes_met, size_fault, with_size, or_fault, object_named, inner_rows_of, file_named, met_file, met_below, if_short, met_by_kind, walk_rows, first_fault}
 use Rattle.ms_tree.specs.Files.{total_of}
-use Rattle.ms_tree.specs.Gathering.{Gives, Gathers, StopsAt, row_below, row_met}
+use Rattle.ms_tree.specs.Gathering.{Gives, Gathers, SaysSize, StopsAt, row_below, row_met}
 use Rattle.ms_tree.proofs.Membership.{only_item, no_item, in_flat_map}
 use Rattle.ms_tree.proofs.Faults.{StopsAt-here}
 
@@ -203,3 +203,9 @@ pub judged_stop : (format : Format) (left : ℕ) (store : Texts) (before : List 
 unfolding row_met
 judged_stop format zero store before row old e stop = stop
 judged_stop format (suc left) store before row old e stop = StopsAt-here old (row_below format (suc left) store before row) (size_fault format row (bytes_met (row_below format (suc left) store before row))) e stop
+
+-- what is judged of a row that was gathered
+pub judged_result : (format : Format) (left : ℕ) (store : Texts) (before : List ℕ) (row : SizedRow) (old new : List FileText) (bytes : ℕ) (result : Result Unit GatherError) → Gathers old new (row_below format left store before row) → bytes ≡ total_of new - total_of old
+    → SaysSize format row bytes result → OnOk result (Gathers old new (row_met format left store before row)) × IfErr result (StopsAt old (row_met format left store before row))
+judged_result format left store before row old new bytes (Ok u) g is says = (judged_fine format left store before row old new bytes g is says, tt)
+judged_result format left store before row old new bytes (Err e) g is says = (tt, judged_wrong format left store before row old new bytes e g is says)

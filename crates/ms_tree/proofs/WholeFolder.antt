@@ -1,5 +1,5 @@
 -- Files as a folder of their own.
-use Rattle.std.proofs.Common.{◌≡◌, ℕ, zero, suc, ◌+◌, ◌<◌, ◌≤◌, ◌==◌, true, false, List, [], ◌∷◌, ◌++◌, inl, inr, refl, sym, ap, ◌∙◌, subst, length, get_or, All, Contains, IsUtf8, Option, Some, slice_get, length-append, take_at, arith}
+use Rattle.std.proofs.Common.{◌≡◌, ℕ, cond, Bool, zero, suc, ◌+◌, ◌<◌, ◌≤◌, ◌==◌, true, false, List, [], ◌∷◌, ◌++◌, inl, inr, refl, sym, ap, ◌∙◌, subst, length, get_or, All, Contains, IsUtf8, Option, Some, map, None, slice_get, length-append, take_at, arith}
 use Rattle.std.proofs.lemmas.List.{get_or_at}
 use Rattle.std.proofs.lemmas.List.Elements.{All-contains, All-cons, All-nil}
 use Rattle.std.proofs.lemmas.Str.{IsUtf8-take, IsUtf8-drop, IsCharBoundary-before_ascii, IsCharBoundary-after_ascii}
@@ -100,13 +100,14 @@ text_here files is file has = text_at-place files has.0 file.0 file.1 is.rising 
 -- no file is larger than what is looked for
 none_larger : (most : ℕ) (files : List FileText) → find (nat_lt most) (map (λ file. length file.1) files) ≡ None → (file : FileText) → Contains files file → length file.1 ≤ most
 none_larger most [] none file has = absurd (omega (arith, has.1))
-none_larger most (first ∷ files) none file has = by (nat_lt most (length first.1)) refl none
+none_larger most (first ∷ files) none file has = by (nat_lt most (length first.1)) refl (none_larger most files) none
   where
-    by : (b : Bool) → nat_lt most (length first.1) ≡ b → cond b (Some (length first.1)) (find (nat_lt most) (map (λ file. length file.1) files)) ≡ None → length file.1 ≤ most
-    by true e n = absurd (let q : Some (length first.1) ≡ None = n in cc)
-    by false e n = elim (in_cases first files file has) [
+    by : (b : Bool) → nat_lt most (length first.1) ≡ b → (find (nat_lt most) (map (λ file. length file.1) files) ≡ None → (file : FileText) → Contains files file → length file.1 ≤ most)
+        → cond b (Some (length first.1)) (find (nat_lt most) (map (λ file. length file.1) files)) ≡ None → length file.1 ≤ most
+    by true e rest n = absurd (let q : Some (length first.1) ≡ None = n in cc)
+    by false e rest n = elim (in_cases first files file has) [
       | inl same ↦ subst (λ (f : FileText). length f.1 ≤ most) same (ltb-false most (length first.1) e)
-      | inr later ↦ none_larger most files n file later
+      | inr later ↦ rest n file later
     ]
 
 pub whole_folder : (format : Format) (files : List FileText) → IsFiles files → first_large format files ≡ None → IsFolder format 64 files

@@ -6,7 +6,7 @@ use Rattle.ms_base.specs.declared.names.Name.{Name}
 use Rattle.ms_object.specs.Objects.{blob_object, object_text, blob_size, blobs_in}
 use Rattle.ms_object.specs.Trees.{Texts}
 use Rattle.ms_tree.specs.Planting.{AddsTexts, named, blob_texts}
-use Rattle.ms_tree.proofs.Pieces.{blobs_more, blobs_length}
+use Rattle.ms_tree.proofs.Pieces.{blobs_more, blobs_none, blobs_length}
 use Rattle.ms_tree.proofs.Stored.{adds_none, adds_more}
 
 -- the blobs before the rest are written
@@ -40,7 +40,7 @@ pub record AreWritten (format : Format) (bytes : List ℕ) (blobs : List Name) (
 
 pub writing_done : (format : Format) → (bytes rest : List ℕ) (blobs : List Name) (old new : Texts) → IsWriting format bytes rest blobs old new → length rest ≡ 0 → AreWritten format bytes blobs old new
 writing_done format bytes [] blobs old new w none =
-    let whole : blob_texts format bytes ≡ w.texts = w.whole ∙ append-nil w.texts in
+    let whole : blob_texts format bytes ≡ w.texts = w.whole ∙ ap (λ (l : List (List ℕ)). w.texts ++ l) (blobs_none format) ∙ append-nil w.texts in
     let names : blobs ≡ map named (blob_texts format bytes) = w.names ∙ ap (map named) (sym whole) in record {
       names = names;
       stored = subst (λ (l : List (List ℕ)). AddsTexts old new l) (sym whole) w.stored;

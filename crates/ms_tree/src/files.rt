@@ -149,8 +149,13 @@ impl Files {
     pub fn first_above(&self, most: u64) -> Option<u64>
         ensures { result ≡ find (nat_lt most) (map (λ f. length f.1) self.now) }
     {
-        let mut sizes = self.map.values().map(|text| text.as_slice().len() as u64);
-        sizes.find(|bytes| *bytes > most)
+        for (_path, text) in &self.map {
+            let bytes = text.as_slice().len() as u64;
+            if bytes > most {
+                return Some(bytes);
+            }
+        }
+        None
     }
 
     /// All files in rising order of their paths, without copies of their texts.

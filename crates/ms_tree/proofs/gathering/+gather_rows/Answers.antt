@@ -4,8 +4,9 @@ use Rattle.std.proofs.lemmas.Result.{err_from_is_err_and}
 use Rattle.ms_object.specs.Objects.{IsSizedDir}
 use Rattle.ms_object.specs.Stores.{text_of}
 use Rattle.ms_object.specs.Trees.{Met}
+use Rattle.ms_tree.specs.Files.{total_of}
 use Rattle.ms_tree.specs.Gathering.{IsFront, IsFilePath, AreFree, Gathers, StopsAt, row_met}
-use Rattle.ms_tree.proofs.Walks.{judged_fine, judged_wrong, judged_stop, row_at_file, row_at_dir, row_into_dir, stops_long, stops_deep, stops_below, rows_met, all_gathered}
+use Rattle.ms_tree.proofs.Walks.{judged_result, judged_stop, row_at_file, row_at_dir, row_into_dir, stops_long, stops_deep, stops_below, rows_met, all_gathered}
 use Rattle.ms_tree.proofs.Faults.{Gathers-row, StopsAt-row}
 use Rattle.ms_tree.proofs.Fronts.{file_path, front_below}
 use Rattle.ms_tree.proofs.Freeing.{free_below, free_after, free_here, label_here, path_back}
@@ -30,7 +31,7 @@ gather_row-add_file-requires-clause-path t c =
     let path = c.extend_from_slice.new.self.items in
     let is : path ≡ before ++ label = c.in_ok-extend_from_slice.ensures.items ∙ ap (λ (l : List ℕ). before ++ l) c.as_slice.ensures in
     let shown : c.as_slice-in-File.result.now ≡ before ++ label = c.as_slice-in-File.ensures.value ∙ is in
-    subst IsFilePath (sym shown) (file_path c.args.format c.args.left before label c.requires.front c.requires.label (omega arith) (omega (arith, c.extend_from_slice.new.self.ok.0, ap (λ (l : List ℕ). length l) is)))
+    subst IsFilePath (sym shown) (file_path c.args.left before label c.requires.front c.requires.label (omega arith) (omega (arith, c.extend_from_slice.new.self.ok.0, ap (λ (l : List ℕ). length l) is)))
 
 pub gather_row-returns-in_err-rows-in-Dir-clause-err : goal.gather_row-returns-in_err-rows-in-Dir-clause-err
 gather_row-returns-in_err-rows-in-Dir-clause-err t c =
@@ -50,11 +51,11 @@ gather_row-gather_rows-requires t c =
     let label = c.args.row.now.label in
     let is : c.extend_from_slice.new.self.items ≡ before ++ label = c.in_ok-extend_from_slice.ensures.items ∙ ap (λ (l : List ℕ). before ++ l) c.as_slice.ensures in
     let next : c.push.new.self.items ≡ (before ++ label) ++ 47 ∷ [] = c.in_ok-push-in-Dir.ensures.items ∙ ap (λ (l : List ℕ). l ++ 47 ∷ []) is in
-    let rows : IsSizedDir c.as_slice-in-Dir.result.now = subst IsSizedDir (sym c.as_slice-in-Dir.ensures) c.in_ok-rows-in-Dir.ensures.rows in
+    let rows : IsSizedDir c.as_slice-rows.result.now = subst IsSizedDir (sym c.as_slice-rows.ensures) c.in_ok-rows-in-Dir.ensures.rows in
     let front : IsFront (c.args.left - 1) c.push.new.self.items =
     subst (λ (b : List ℕ). IsFront (c.args.left - 1) b) (sym next) (front_below c.args.left before label c.requires.front c.requires.label (omega arith)) in
-    let below : AreFree c.args.files.now c.push.new.self.items c.as_slice-in-Dir.result.now =
-    subst (λ (b : List ℕ). AreFree c.args.files.now b c.as_slice-in-Dir.result.now) (sym next) (free_below c.args.files.now (before ++ label) c.as_slice-in-Dir.result.now c.requires.free) in
+    let below : AreFree c.args.files.now c.push.new.self.items c.as_slice-rows.result.now =
+    subst (λ (b : List ℕ). AreFree c.args.files.now b c.as_slice-rows.result.now) (sym next) (free_below c.args.files.now (before ++ label) c.as_slice-rows.result.now c.requires.free) in
     (omega arith, (front, (rows, below)))
 
 pub gather_row-returns-in-File-clause-ok : goal.gather_row-returns-in-File-clause-ok
@@ -78,8 +79,8 @@ gather_row-returns-in_ok-push-in-Dir-clause-ok t c =
     let before = c.args.path.now.items in
     let path = c.extend_from_slice.new.self.items in
     let is : path ≡ before ++ c.args.row.now.label = c.in_ok-extend_from_slice.ensures.items ∙ ap (λ (l : List ℕ). before ++ l) c.as_slice.ensures in
-    let at = row_into_dir c.args.format c.args.left (text_of c.args.store.now) before path c.push.new.self.items c.args.row.now _ c.as_slice-in-Dir.result.now is (omega (arith, c.extend_from_slice.new.self.ok.0)) (omega arith) c.in-Dir.is
-    c.in_ok-rows-in-Dir.ensures.exact c.in_ok-push-in-Dir.ensures.items c.as_slice-in-Dir.ensures in
+    let at = row_into_dir c.args.format c.args.left (text_of c.args.store.now) before path c.push.new.self.items c.args.row.now _ c.as_slice-rows.result.now is (omega (arith, c.extend_from_slice.new.self.ok.0)) (omega arith) c.in-Dir.is
+    c.in_ok-rows-in-Dir.ensures.exact c.in_ok-push-in-Dir.ensures.items c.as_slice-rows.ensures in
     subst (λ (m : List Met). OnOk c.gather_rows.result (Gathers c.args.files.now c.gather_rows.new.files m)) (sym at) c.gather_rows.ensures.ok
 
 pub gather_row-returns-in_ok-push-in-Dir-clause-err : goal.gather_row-returns-in_ok-push-in-Dir-clause-err
@@ -87,8 +88,8 @@ gather_row-returns-in_ok-push-in-Dir-clause-err t c =
     let before = c.args.path.now.items in
     let path = c.extend_from_slice.new.self.items in
     let is : path ≡ before ++ c.args.row.now.label = c.in_ok-extend_from_slice.ensures.items ∙ ap (λ (l : List ℕ). before ++ l) c.as_slice.ensures in
-    let at = row_into_dir c.args.format c.args.left (text_of c.args.store.now) before path c.push.new.self.items c.args.row.now _ c.as_slice-in-Dir.result.now is (omega (arith, c.extend_from_slice.new.self.ok.0)) (omega arith) c.in-Dir.is
-    c.in_ok-rows-in-Dir.ensures.exact c.in_ok-push-in-Dir.ensures.items c.as_slice-in-Dir.ensures in
+    let at = row_into_dir c.args.format c.args.left (text_of c.args.store.now) before path c.push.new.self.items c.args.row.now _ c.as_slice-rows.result.now is (omega (arith, c.extend_from_slice.new.self.ok.0)) (omega arith) c.in-Dir.is
+    c.in_ok-rows-in-Dir.ensures.exact c.in_ok-push-in-Dir.ensures.items c.as_slice-rows.ensures in
     subst (λ (m : List Met). IfErr c.gather_rows.result (StopsAt c.args.files.now m)) (sym at) c.gather_rows.ensures.err
 
 pub gather_rows-gather_judged-requires : goal.gather_rows-gather_judged-requires
@@ -143,3 +144,13 @@ pub gather_judged-returns-in_err-gather_row-clause-err : goal.gather_judged-retu
 gather_judged-returns-in_err-gather_row-clause-err t c =
     let p = err_from_is_err_and c.from_residual.result c.from_residual.ensures.1 in
     rw (p.1, p.2) (judged_stop c.args.format c.args.left (text_of c.args.store.now) c.args.path.now.items c.args.row.now c.args.files.now _ c.in_err-gather_row.ensures.err)
+
+pub gather_judged-returns-clause-ok : goal.gather_judged-returns-clause-ok
+gather_judged-returns-clause-ok t c =
+    let bytes : c.total.result - c.total-before.result ≡ total_of c.gather_row.new.files - total_of c.args.files.now = omega (arith, c.total.ensures, c.total-before.ensures) in
+    (judged_result c.args.format c.args.left (text_of c.args.store.now) c.args.path.now.items c.args.row.now c.args.files.now c.gather_row.new.files (c.total.result - c.total-before.result) c.check_size.result c.in_ok-gather_row.ensures.ok bytes c.check_size.ensures).0
+
+pub gather_judged-returns-clause-err : goal.gather_judged-returns-clause-err
+gather_judged-returns-clause-err t c =
+    let bytes : c.total.result - c.total-before.result ≡ total_of c.gather_row.new.files - total_of c.args.files.now = omega (arith, c.total.ensures, c.total-before.ensures) in
+    (judged_result c.args.format c.args.left (text_of c.args.store.now) c.args.path.now.items c.args.row.now c.args.files.now c.gather_row.new.files (c.total.result - c.total-before.result) c.check_size.result c.in_ok-gather_row.ensures.ok bytes c.check_size.ensures).1

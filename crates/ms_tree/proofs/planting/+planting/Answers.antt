@@ -107,9 +107,9 @@ plant_part-returns-in_ok-name-in-Some-clause-row t c =
     let one = one_dir c.args.format c.args.left c.args.skip c.args.part.now.files.now c.args.part.now.label.now no_file is c.in-Some.ensures.0 in
     let name : c.in_ok-name-in-Some.name ≡ named (directory_text c.args.format c.args.left (shown_from (c.args.skip + length c.args.part.now.label.now + 1) c.args.part.now.files.now)) =
     c.in_ok-name-in-Some.ensures.name ∙ ap (λ (n : ℕ). named (directory_text c.args.format c.args.left (shown_from n c.args.part.now.files.now))) c.in-Some.ensures.1 in
-    let size : c.size_said-in_ok-name-in-Some.result ≡ size_said c.args.format (total_of (shown_from (c.args.skip + length c.args.part.now.label.now + 1) c.args.part.now.files.now)) =
-    c.size_said-in_ok-name-in-Some.ensures ∙ ap (size_said c.args.format) (c.bytes_of.ensures (c.args.skip + length c.args.part.now.label.now + 1)) in
-    row_same kinds.Dir c.in_ok-label.label c.args.part.now.label.now c.size_said-in_ok-name-in-Some.result _ c.in_ok-name-in-Some.name _ c.in_ok-label.ensures size name ∙ sym one.row
+    let size : c.size_said-in-Some.result ≡ size_said c.args.format (total_of (shown_from (c.args.skip + length c.args.part.now.label.now + 1) c.args.part.now.files.now)) =
+    c.size_said-in-Some.ensures ∙ ap (size_said c.args.format) (c.bytes_of.ensures (c.args.skip + length c.args.part.now.label.now + 1)) in
+    row_same kinds.Dir c.in_ok-label.label c.args.part.now.label.now c.size_said-in-Some.result _ c.in_ok-name-in-Some.name _ c.in_ok-label.ensures size name ∙ sym one.row
 
 pub plant_part-returns-in_ok-name-in-Some-clause-texts : goal.plant_part-returns-in_ok-name-in-Some-clause-texts
 plant_part-returns-in_ok-name-in-Some-clause-texts t c =
