@@ -7,11 +7,13 @@ use Rattle.sha2.proofs.Facts256.{length-sha256}
 use Rattle.sha2.specs.Sha256.{sha256, digest_bytes, hash_after, compress, rounds, schedule, first_words}
 use Rattle.ms_base.specs.declared.names.ClientId.{ClientId}
 use Rattle.ms_base.specs.declared.names.Name.{Name}
+use Rattle.ms_object.specs.declared.format.Format.{Format}
 use Rattle.ms_object.specs.declared.object.Object.{Object}
+use Rattle.ms_object.specs.declared.object.SizedRow.{SizedRow}
 use Rattle.ms_object.specs.declared.object.Object.TheVariants as objects
 use Rattle.ms_object.specs.Objects.{Spells, object_text}
 use Rattle.ms_object.specs.Reading.{object_at}
-use Rattle.ms_object.specs.Trees.{Texts, IsTree, object_named, object_or_fault, text_or_fault, or_fault, rows_of, met_below, walk, walk_rows, Met, first_fault}
+use Rattle.ms_object.specs.Trees.{Texts, IsTree, object_named, object_or_fault, text_or_fault, or_fault, top_of, met_below, walk, walk_rows, Met, first_fault}
 
 some_same : (x y : List ℕ) → Some x ≡ Some y → x ≡ y
 some_same x y e = cc
@@ -109,8 +111,8 @@ unfolding walk walk_rows object_named
 no_files again =
     let read : object_at (object_text directory) ≡ Some directory = again (object_text directory) directory directory_spelled in
     let nothing : walk two_texts root ≡ [] =
-    ap (λ (o : Option (List ℕ)). met_below (or_fault (or_fault (text_or_fault root o) (λ text. object_or_fault root (object_at text))) (rows_of root)) (walk_rows 64 two_texts [])) has_directory
-    ∙ ap (λ (o : Option Object). met_below (or_fault (object_or_fault root o) (rows_of root)) (walk_rows 64 two_texts [])) read in
+    ap (λ (o : Option (List ℕ)). met_below (or_fault (or_fault (text_or_fault root o) (λ text. object_or_fault root (object_at text))) (top_of root)) (λ (top : Format × List SizedRow). walk_rows top.0 64 two_texts [] top.1)) has_directory
+    ∙ ap (λ (o : Option Object). met_below (or_fault (object_or_fault root o) (top_of root)) (λ (top : Format × List SizedRow). walk_rows top.0 64 two_texts [] top.1)) read in
     record {
       whole = ap (λ (met : List Met). first_fault 0 0 met) nothing;
       found = λ file. subst (λ (met : List Met). Contains [] file ↔ Contains met (Ok file)) (sym nothing) ((λ h. absurd (omega (arith, h.1))), (λ h. absurd (omega (arith, h.1))));

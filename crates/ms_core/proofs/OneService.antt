@@ -17,7 +17,8 @@ use Rattle.ms_core.specs.declared.want.Want.{Want}
 use Rattle.ms_core.specs.Views.{View, configuration, log_in, offers_told, votes_told, WholeBy, SupportsOffer, SupportsEvent, TellsSetting, IsClosed}
 use Rattle.ms_ken.specs.Lists.{list_at, with_item}
 use Rattle.ms_object.specs.declared.object.Object.{Object}
-use Rattle.ms_object.specs.Objects.{Spells, object_text}
+use Rattle.ms_object.specs.declared.format.Format.TheVariants as formats
+use Rattle.ms_object.specs.Objects.{Spells, format_of, numbered, object_text}
 use Rattle.ms_object.specs.Reading.{object_at}
 use Rattle.ms_record.specs.declared.ballot.Ballot.{Ballot}
 use Rattle.ms_record.specs.declared.entry.Entry.{Entry}
@@ -119,8 +120,8 @@ holds_two r format one = record {
   named = λ name text is. elim (texts_are name.0 text is) [ inl d ↦ d.0 ∙ ap sha256 d.1 | inr v ↦ v.0 ∙ ap sha256 v.1 ];
   formats = λ name text is.
       elim (texts_are name.0 text is) [
-        | inl d ↦ record { object = directory; spells = subst (λ t. Spells t directory) d.1 directory_spelled; format_is = sym one }
-        | inr v ↦ record { object = version; spells = subst (λ t. Spells t version) v.1 version_spelled; format_is = sym one }
+        | inl d ↦ record { object = directory; spells = subst (λ t. Spells t directory) d.1 directory_spelled; format_is = ap numbered one }
+        | inr v ↦ record { object = version; spells = subst (λ t. Spells t version) v.1 version_spelled; format_is = ap numbered one }
       ];
 }
   where
@@ -149,11 +150,14 @@ whole r has plan enough format directory_put version_put = record {
   are = record {
     text = object_text version;
     is = has_version;
+    format = formats.One;
     client = nobody;
     number = 0;
     parents = [];
     root = root;
     spells = version_spelled;
+    rooted = λ below object is spells. ap format_of (r.one_value below object directory spells
+        (subst (λ t. Spells t directory) (some_same (object_text directory) below (sym has_directory ∙ is)) directory_spelled));
     tree = no_files r.objects;
   };
 }

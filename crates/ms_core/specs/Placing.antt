@@ -10,7 +10,8 @@ use Rattle.ms_object.specs.declared.object.Kind.TheVariants as kinds
 use Rattle.ms_object.specs.declared.object.Object.{Object}
 use Rattle.ms_object.specs.declared.object.Object.TheVariants as objects
 use Rattle.ms_object.specs.declared.object.Row.{Row}
-use Rattle.ms_object.specs.Objects.{Spells}
+use Rattle.ms_object.specs.declared.object.SizedRow.{SizedRow}
+use Rattle.ms_object.specs.Objects.{Spells, format_of, numbered}
 use Rattle.ms_object.specs.Trees.{Texts}
 use Rattle.ms_record.specs.declared.log.LogEvent.{LogEvent}
 use Rattle.ms_record.specs.declared.plan.PlanRow.{PlanRow}
@@ -20,9 +21,13 @@ use Rattle.ms_record.specs.Plans.{PlanView}
 -- an object is of the kind that names it
 abbrev pub IsOf : Wanted → Object → Type 0
 IsOf Blob (objects.Blob text) = Unit {0}
+IsOf Blob (objects.Blob2 text) = Unit {0}
 IsOf File (objects.File size blobs) = Unit {0}
+IsOf File (objects.File2 size blobs) = Unit {0}
 IsOf Directory (objects.Dir rows) = Unit {0}
+IsOf Directory (objects.Dir2 rows) = Unit {0}
 IsOf Version (objects.Version client number parents root) = Unit {0}
+IsOf Version (objects.Version2 client number parents root) = Unit {0}
 IsOf _ _ = ⊥
 
 abbrev pub wanted_of : Kind → Wanted
@@ -35,13 +40,13 @@ want_of wanted name = record { name = name; wanted = wanted }
 -- the names in an object, each with what it is to name; a version's parents are not reached
 abbrev pub wanted_in : Object → List Want
 wanted_in (objects.Blob text) = []
+wanted_in (objects.Blob2 text) = []
 wanted_in (objects.File size blobs) = map (want_of Blob) blobs
+wanted_in (objects.File2 size blobs) = map (want_of Blob) blobs
 wanted_in (objects.Dir rows) = map (λ (row : Row). want_of (wanted_of row.kind) row.name) rows
+wanted_in (objects.Dir2 rows) = map (λ (row : SizedRow). want_of (wanted_of row.kind) row.name) rows
 wanted_in (objects.Version client number parents root) = want_of Directory root ∷ []
-
--- the format that an object is of
-abbrev pub format_of : Object → ℕ
-format_of object = 1
+wanted_in (objects.Version2 client number parents root) = want_of Directory root ∷ []
 
 -- the store has an object of that kind under that name
 pub record HasObject (store : Texts) (name : Name) (wanted : Wanted) : Type 0 where
@@ -57,11 +62,11 @@ pub record OnEnough (has : ℕ → Type 0) (plan : PlanView) : Type 0 where
   pub have : (s : ℕ) → part s ≡ true → has s
   pub enough : plan.replicas ≤ count_by (λ (row : PlanRow). part row.service.0) plan.rows
 
--- the text is an object of that format
+-- the text is an object of the format of that number
 pub record IsOfFormat (format : ℕ) (text : List ℕ) : Type 0 where
   pub object : Object
   pub spells : Spells text object
-  pub format_is : format_of object ≡ format
+  pub format_is : numbered format ≡ Some (format_of object)
 
 -- The store has a version of that name. Each of its texts is an object of the format and stands under its SHA-256, and with
 -- each text it has what that names, as objects of the kinds that name them.

@@ -6,8 +6,9 @@ use Rattle.ms_base.specs.declared.names.Name.{Name}
 use Rattle.ms_core.specs.Placing.{PlacedBy}
 use Rattle.ms_core.specs.Valid.{IsValid, IsBacked, plan_behind, votes_of_logs}
 use Rattle.ms_ken.specs.Lists.{list_at}
-use Rattle.ms_object.specs.declared.object.Object.TheVariants as objects
-use Rattle.ms_object.specs.Objects.{Spells}
+use Rattle.ms_object.specs.declared.format.Format.{Format}
+use Rattle.ms_object.specs.declared.object.Object.{Object}
+use Rattle.ms_object.specs.Objects.{Spells, format_of, version_object}
 use Rattle.ms_object.specs.Trees.{Texts, FileText, IsTree}
 use Rattle.ms_record.specs.declared.ballot.Ballot.{Ballot}
 use Rattle.ms_record.specs.declared.entry.Entry.{Entry}
@@ -48,15 +49,17 @@ offers_told view client = offers_of_items (list_at view (owner_of_client client)
 abbrev pub votes_told : View → ℕ → List Record
 votes_told view = votes_of_logs (log_in view)
 
--- the store has a version of this name, and these are the files of the tree below its root
+-- the store has a version of this name, and these are the files of the tree below its root, which is of its format
 pub record AreFilesOf (store : Texts) (version : Name) (files : List FileText) : Type 0 where
   pub text : List ℕ
   pub is : store version.0 ≡ Some text
+  pub format : Format
   pub client : ClientId
   pub number : ℕ
   pub parents : List Name
   pub root : Name
-  pub spells : Spells text (objects.Version client number parents root)
+  pub spells : Spells text (version_object format client number parents root)
+  pub rooted : (below : List ℕ) (object : Object) → store root.0 ≡ Some below → Spells below object → format_of object ≡ format
   pub tree : IsTree store root files
 
 -- placed, and by texts whose files are something, where `has` says what a service has
