@@ -11,7 +11,7 @@ use Rattle.std.proofs.lemmas.Slice.Eq.{bytes_eq-Decides}
 use Rattle.ms_base.specs.declared.names.Name.{Name}
 use Rattle.ms_core.specs.declared.want.Want.{Want}
 use Rattle.ms_core.specs.declared.want.Wanted.TheVariants.{Version}
-use Rattle.ms_core.specs.Placing.{HasObject, OnEnough, want_of, wanted_in, IsOfFormat, format_of}
+use Rattle.ms_core.specs.Placing.{HasObject, OnEnough, want_of, wanted_in, IsOfFormat}
 use Rattle.ms_world.specs.PutTexts.{ArePutsNamed, IsPlacedInLogs, text_of_puts}
 use Rattle.ms_world.specs.Puts.{PutsView, Knows, found_at, text_found, is_on}
 use Rattle.ms_world.specs.Reaching.{IsThere, Meets, Reaches}
@@ -20,7 +20,7 @@ use Rattle.ms_world.proofs.MeetLaws.{stays_met}
 use Rattle.ms_world.proofs.PutLaws.{both_true, name_is, put_where_text, text_from_put, text_is_named}
 use Rattle.ms_world.proofs.ReachLaws.{OneValue}
 use Rattle.ms_object.specs.declared.object.Object.{Object}
-use Rattle.ms_object.specs.Objects.{Spells}
+use Rattle.ms_object.specs.Objects.{Spells, format_of, numbered}
 use Rattle.ms_object.specs.Trees.{Texts}
 use Rattle.ms_record.specs.declared.log.LogEvent.{LogEvent}
 use Rattle.ms_record.specs.declared.plan.PlanRow.{PlanRow}
@@ -112,10 +112,10 @@ module _ (logs : List (List LogEvent)) (plan : PlanView) (version : Name) (puts 
   text_known name text e = sym (knows.texts name) ∙ e
 
   -- what the store has is of the plan's format
-  format_there : (p : IsPlacedInLogs logs plan version) (want : Want) (has : HasObject p.placed.store want.name want.wanted) → format_of has.object ≡ plan.format
+  format_there : (p : IsPlacedInLogs logs plan version) (want : Want) (has : HasObject p.placed.store want.name want.wanted) → numbered plan.format ≡ Some (format_of has.object)
   format_there p want has =
       let is = p.placed.holds.formats want.name has.text has.is in
-      ap format_of (one has.text has.object is.object has.spells is.spells) ∙ is.format_is
+      is.format_is ∙ ap (λ (o : Object). Some (format_of o)) (one has.text is.object has.object is.spells has.spells)
 
   -- what is needed is there
   there_if_needed : IsPlan plan → (p : IsPlacedInLogs logs plan version) (want : Want) → HasObject p.placed.store want.name want.wanted → IsThere puts plan want

@@ -1,11 +1,7 @@
-use Rattle.std.proofs.Common.{◌≡◌, ℕ, sym, subst, IfOk}
-use Rattle.ms_world.specs.Reaching.{IsText, MeetsText}
+use Rattle.std.proofs.Common.{Option, IfOk, sym, subst}
+use Rattle.ms_object.specs.declared.format.Format.{Format}
+use Rattle.ms_world.specs.Reaching.{MeetsText}
 use Rattle.ms_world.proofs.placing.meet_text.Goals as goal
 
-pub returns-then-format-ne1 : goal.returns-then-format-ne1
-returns-then-format-ne1 c = λ read. absurd (c.if-format-ne1.true (sym read.format_is))
-
-pub returns : goal.returns
-returns c =
-    let one : 1 ≡ c.args.format = sym c.if-format-ne1.false in
-    subst (λ (format : ℕ). IfOk c.meet_first.result (MeetsText format c.args.wanted c.args.text.now c.args.met.now c.meet_first.new.met)) one c.meet_first.ensures
+pub returns-in-Some : goal.returns-in-Some
+returns-in-Some c = subst (λ (format : Option Format). IfOk c.meet_of.result (MeetsText format c.args.wanted c.args.text.now c.args.met.now c.meet_of.new.met)) (sym c.in-Some.is) c.meet_of.ensures
