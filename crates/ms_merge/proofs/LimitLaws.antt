@@ -92,8 +92,8 @@ added_past rows place total there a past = record {
 pub added_all : (rows : List FileRef) (place total : ℕ) → AreAdded rows place total → length rows ≤ place → total_of (map shown rows) ≤ 1073741824
 added_all rows place total a all = omega (arith, a.within, a.sum, ap total_of (shown_all shown rows place all))
 
-pub short_rows : (rows : List FileRef) (files : FileList) → map shown rows ≡ files → All (λ f. length f.1 ≤ 67108864) files → All (λ row. length row.text.now ≤ 67108864) rows
+pub short_rows : (rows : List FileRef) (files : FileList) → map shown rows ≡ files → All (λ f. length f.1 ≤ 1073741824) files → All (λ row. length row.text.now ≤ 1073741824) rows
 short_rows rows files is short = λ k d below.
-    let all : All (λ f. length f.1 ≤ 67108864) (map shown rows) = subst (λ (l : FileList). All (λ f. length f.1 ≤ 67108864) l) (sym is) short in
-    let here : length (get_or (map shown rows) k (shown d)).1 ≤ 67108864 = all k (shown d) (omega (arith, length-map rows shown, below)) in
-    subst (λ (f : List ℕ × List ℕ). length f.1 ≤ 67108864) (get_or-map shown rows k d (shown d) below) here
+    let all : All (λ f. length f.1 ≤ 1073741824) (map shown rows) = subst (λ (l : FileList). All (λ f. length f.1 ≤ 1073741824) l) (sym is) short in
+    let here : length (get_or (map shown rows) k (shown d)).1 ≤ 1073741824 = all k (shown d) (omega (arith, length-map rows shown, below)) in
+    subst (λ (f : List ℕ × List ℕ). length f.1 ≤ 1073741824) (get_or-map shown rows k d (shown d) below) here

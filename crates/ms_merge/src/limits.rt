@@ -14,7 +14,7 @@ use ms_tree::{DraftFile, FileRef, long_part};
 
 /// The first limit that the files pass, or the names that were given.
 pub fn check(rows: &[FileRef], names: &[DraftFile]) -> Result<(), Refusal>
-    requires { All (λ row. length row.text.now ≤ 67108864) rows.now }
+    requires { All (λ row. length row.text.now ≤ 1073741824) rows.now }
     ensures { Fits (map (λ r. (r.path.now, r.text.now)) rows.now) (keys_of (map drafted names.now)) result }
 {
     if rows.len() as u64 > MOST_FILES {
@@ -29,7 +29,7 @@ pub fn check(rows: &[FileRef], names: &[DraftFile]) -> Result<(), Refusal>
 
 /// The limit on the bytes of all files, which are added up in rising order of the paths.
 fn check_total(rows: &[FileRef]) -> Result<(), Refusal>
-    requires { All (λ row. length row.text.now ≤ 67108864) rows.now }
+    requires { All (λ row. length row.text.now ≤ 1073741824) rows.now }
     ensures { FitsTotal (map (λ r. (r.path.now, r.text.now)) rows.now) result }
 {
     let mut total = 0;
