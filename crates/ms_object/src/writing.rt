@@ -182,12 +182,7 @@ fn push_blob(format: Format, text: &[u8], out: &mut Vec<u8>) -> Result<(), NoMem
     push_bytes(out, text)
 }
 
-fn push_file(
-    format: Format,
-    size: u64,
-    blobs: &[Name],
-    out: &mut Vec<u8>,
-) -> Result<(), NoMemory>
+fn push_file(format: Format, size: u64, blobs: &[Name], out: &mut Vec<u8>) -> Result<(), NoMemory>
     requires { IsFile format size blobs.now }
     ensures ok { OnOk result (out.new.items ≡ out.old.items ++ file_text format size blobs.now) }
     ensures grows { Grows out.old.items out.new.items }

@@ -42,7 +42,7 @@ module _ (command : Option Command) (old : OutsideView) where
 
   fault_cause : (new : OutsideView) (fault : Refusal) → FaultOf command old fault → IsTextFault fault → CauseOf command old new (reports.Refused fault)
   fault_cause new fault of (inl h) = by_refusal new fault _ h.1 (refl, subst (λ (f : Refusal). FaultOf command old f) h.1 of)
-  fault_cause new fault of (inr h) = by_refusal new fault _ h.2 (inr (subst (λ (f : Refusal). FaultOf command old f) h.2 of))
+  fault_cause new fault of (inr h) = by_refusal new fault _ h.2 (inr (inl (subst (λ (f : Refusal). FaultOf command old f) h.2 of)))
 
   module _ {A : Type 0} (command_on : List ℕ → Command) (spelled : List ℕ → Result A Refusal) (Says : A → Result Report Refusal → Type 0)
       (long : HasLongInput command_on command old → LongInput command old) (into : (fault : Refusal) → HasFault command_on spelled command old fault → FaultOf command old fault)
@@ -72,7 +72,11 @@ module _ (command : Option Command) (old : OutsideView) where
       by (inr stops) = moved new result _ stops.3 (subst (Drilled command old) stops.3 h)
 
   hash_cause : (new : OutsideView) (result : Result Report Refusal) → Hashed command old result → CauseOf command old new (report_of result)
-  hash_cause new result h = moved new result _ h.says.4 (subst (Hashed command old) h.says.4 h)
+  hash_cause new result h = by h.says
+    where
+      by : FilesSay h.value result → CauseOf command old new (report_of result)
+      by (inl whole) = moved new result _ whole.4 (subst (Hashed command old) whole.4 h)
+      by (inr large) = moved new result _ large.is (inr (inr (subst (Hashed command old) large.is h)))
 
   command_cause : (asked : Option Command) (new : OutsideView) (result : Result Report Refusal) → command ≡ asked → ByCommand asked old new result → CauseOf command old new (report_of result)
   command_cause None new result q h = moved new result _ h.1 q

@@ -69,5 +69,5 @@ CauseOf command old new (reports.Refused (refusals.BadInput place line)) = (plac
 CauseOf command old new (reports.Refused (refusals.OutsideFault place)) = (place ≡ places.Input) × IsSome command × Rose old.inputs.faults new.inputs.faults
 CauseOf command old new (reports.Refused refusals.NoMemory) = IsSome command
 CauseOf command old new (reports.Refused (refusals.Split position first second)) = Audited command old (Err (refusals.Split position first second))
-CauseOf command old new (reports.Refused (refusals.Limit what value)) = ((what ≡ quantities.Input) × (value ≡ INPUT_BYTES + 1) × LongInput command old) ⊎ FaultOf command old (refusals.Limit what value)
+CauseOf command old new (reports.Refused (refusals.Limit what value)) = ((what ≡ quantities.Input) × (value ≡ INPUT_BYTES + 1) × LongInput command old) ⊎ (FaultOf command old (refusals.Limit what value) ⊎ Hashed command old (Err (refusals.Limit what value)))
 CauseOf command old new (reports.Refused (refusals.NotEnabled number why)) = Drilled command old (Err (refusals.NotEnabled number why))

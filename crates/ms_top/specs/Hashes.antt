@@ -1,11 +1,14 @@
 -- What the command `hash` answers: the tree of a listing's files, or the first fault of the listing.
-use Rattle.std.specs.Prelude.{◌≡◌, ℕ, ◌⊎◌, List, length, Result, Ok, Err}
+use Rattle.std.specs.Prelude.{◌≡◌, ℕ, ◌⊎◌, List, length, Some, Result, Ok, Err}
 use Rattle.ms_base.specs.declared.names.Name.{Name}
+use Rattle.ms_base.specs.declared.names.Quantity.TheVariants as quantities
+use Rattle.ms_object.specs.declared.format.Format.TheVariants as formats
 use Rattle.ms_object.specs.Trees.{Texts}
 use Rattle.ms_record.specs.declared.refusal.Refusal.{Refusal}
+use Rattle.ms_record.specs.declared.refusal.Refusal.TheVariants as refusals
 use Rattle.ms_tree.specs.Files.{FileList}
 use Rattle.ms_tree.specs.Listings.{listing_at}
-use Rattle.ms_tree.specs.Planting.{IsPlanted, Collide, object_texts, different}
+use Rattle.ms_tree.specs.Planting.{IsPlanted, Collide, object_texts, different, first_large}
 use Rattle.ms_words.specs.declared.report.Report.{Report}
 use Rattle.ms_words.specs.declared.report.Report.TheVariants as reports
 use Rattle.ms_top.specs.Inputs.{TextSays}
@@ -14,11 +17,21 @@ use Rattle.ms_top.specs.Inputs.{TextSays}
 pub record IsHash (files : FileList) (count objects : ℕ) (root : Name) : Type 0 where
   pub count_is : count ≡ length files
   pub store : Texts
-  pub planted : IsPlanted files store root
-  pub objects_is : Collide (object_texts 64 files) ⊎ (objects ≡ different (object_texts 64 files))
+  pub planted : IsPlanted formats.One files store root
+  pub objects_is : Collide (object_texts formats.One 64 files) ⊎ (objects ≡ different (object_texts formats.One 64 files))
 
+abbrev pub HashIs : FileList → Result Report Refusal → Type 0
+HashIs files result = (count : ℕ) × (objects : ℕ) × (root : Name) × IsHash files count objects root × (result ≡ Ok (reports.Hash count objects root))
+
+-- the first file that is too large for format 1 has so many bytes
+pub record IsTooLarge (files : FileList) (result : Result Report Refusal) : Type 0 where
+  pub bytes : ℕ
+  pub first : first_large formats.One files ≡ Some bytes
+  pub is : result ≡ Err (refusals.Limit quantities.File bytes)
+
+-- the tree of the files in format 1, or the first file that it does not take
 abbrev pub FilesSay : FileList → Result Report Refusal → Type 0
-FilesSay files result = (count : ℕ) × (objects : ℕ) × (root : Name) × IsHash files count objects root × (result ≡ Ok (reports.Hash count objects root))
+FilesSay files result = HashIs files result ⊎ IsTooLarge files result
 
 -- what the text of a listing is answered with
 abbrev pub HashSays : List ℕ → Result Report Refusal → Type 0

@@ -5,8 +5,9 @@ ghost use Rattle.ms_base.specs.declared.limits.TheConstants.{INPUT_BYTES};
 ghost use Rattle.ms_top.specs.Hashes.{HashSays, FilesSay};
 ghost use Rattle.ms_top.specs.Steps.{OrNoMemory};
 
+use ms_object::Format;
 use ms_record::Refusal;
-use ms_tree::{Files, plant, read_listing};
+use ms_tree::{Files, PlantError, plant, read_listing};
 use ms_words::Report;
 use std::alloc::Global;
 
@@ -25,10 +26,13 @@ pub(crate) fn hash_text(alloc: Global, text: &[u8]) -> Result<Report, Refusal>
 fn on_files(alloc: Global, files: &Files) -> Result<Report, Refusal>
     ensures { OrNoMemory result (FilesSay files.now result) }
 {
-    let planted = plant(alloc, files)?;
-    Ok(Report::Hash {
-        files: files.count(),
-        objects: planted.objects.len(),
-        root: planted.root,
-    })
+    match plant(alloc, files, Format::One) {
+        Ok(planted) => Ok(Report::Hash {
+            files: files.count(),
+            objects: planted.objects.len(),
+            root: planted.root,
+        }),
+        Err(PlantError::Limit { what, value }) => Err(Refusal::Limit { what, value }),
+        Err(PlantError::NoMemory) => Err(Refusal::NoMemory),
+    }
 }
