@@ -58,7 +58,7 @@ fn is_hundred(texts: &[Bytes], mark: u8) -> bool {
     next == 100
 }
 
-/// The pass of client 0, which owns its word, a link with faults and the board go into one thread; a note and another link into a second.
+/// The pass of the configuration, which owns its word, a link with faults and the board go into one thread; a note and another link into a second.
 fn threads_on<J: Naming + Send + Sync, R: Threads + Wait + Abort + Copy + Drop + Send + Sync>(
     rt: R,
     alloc: Global,

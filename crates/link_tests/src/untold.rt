@@ -33,24 +33,21 @@ pub(crate) struct Case<'a> {
     pub(crate) faults: u64,
 }
 
-/// The passes of client 0 and of service 0, which know of the configuration that nothing is claimed.
+/// The passes of the configuration, which tells that nothing is claimed, and of service 0, which knows it.
 pub(crate) fn begun(board: &Common, mut passes: Vec<Know>) -> Option<(Know, Know)>
     requires { ArePasses board.now 33 passes.items }
-    ensures client { IfSome result (λ r. (r.0.board ≡ board.now) × (r.0.word ≡ Some 16) × KnowsUntold r.0.lists) }
+    ensures configuration { IfSome result (λ r. (r.0.board ≡ board.now) × KnowsUntold r.0.lists) }
     ensures service { IfSome result (λ r. (r.1.board ≡ board.now) × (r.1.word ≡ Some 0) × (list_at r.1.lists 0 ≡ []) × KnowsUntold r.1.lists) }
 {
     let mut configuration = passes.pop()?;
-    passes.truncate(17);
-    let mut client = passes.pop()?;
     passes.truncate(1);
     let mut service = passes.pop()?;
     board.tell(&mut configuration, &Item::Untold);
-    board.take(&mut client, board.note(&mut configuration));
     board.take(&mut service, board.note(&mut configuration));
-    Some((client, service))
+    Some((configuration, service))
 }
 
-/// Service 0 behind its lock, and the pass of client 0.
+/// Service 0 behind its lock, and the pass of the configuration, which owns its word.
 pub(crate) fn home<J: Naming>(
     alloc: Global,
     board: &Common,

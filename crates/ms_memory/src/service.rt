@@ -58,7 +58,7 @@ impl<J: Naming> MemoryService<J> {
         found == self.service
     }
 
-    /// Under the lock the pass takes a note of the service's pass, which knows what the configuration told. It takes no memory.
+    /// Under the lock the pass and the service's pass meet: each then knows what both knew, and so what the configuration told. It takes no memory.
     pub fn show<R: Wait>(&self, rt: &R, board: &Common, pass: &mut Know)
         requires board { (board.now ≡ J.board) × (pass.old.board ≡ J.board) }
         ensures configuration { 0 < length (list_at pass.new.lists configuration) }

@@ -1,9 +1,11 @@
 //! A lock whose value has another number than the service around it.
 
-ghost use Rattle.std.specs.Prelude.{◌≡◌, ◌<◌, [], length, Some, IfSome};
+ghost use Rattle.std.specs.Prelude.{◌≡◌, [], ◌∷◌, Some, IfSome};
+ghost use mathlib.Core.List.{IsPrefix};
 ghost use Rattle.ms_core.specs.Views.{configuration};
 ghost use Rattle.ms_ken.specs.Known.{ArePasses};
 ghost use Rattle.ms_ken.specs.Lists.{list_at};
+ghost use Rattle.ms_record.specs.declared.item.Item.TheVariants.{Untold};
 
 use crate::{MemoryLink, MemoryService, ServiceState};
 use ms_base::ServiceId;
@@ -20,8 +22,7 @@ use std::test::*;
 fn begun(board: &Common, mut passes: Vec<Know>) -> Option<(Know, Know)>
     requires { ArePasses board.now 33 passes.items }
     ensures configuration { IfSome result (λ r. r.0.board ≡ board.now) }
-    ensures service { IfSome result (λ r. (r.1.board ≡ board.now) × (r.1.word ≡ Some 0) × (list_at r.1.lists 0 ≡ [])) }
-    ensures told { IfSome result (λ r. 0 < length (list_at r.1.lists configuration)) }
+    ensures service { IfSome result (λ r. (r.1.board ≡ board.now) × (r.1.word ≡ Some 0) × (list_at r.1.lists 0 ≡ []) × IsPrefix (Untold ∷ []) (list_at r.1.lists configuration)) }
 {
     let mut configuration = passes.pop()?;
     passes.truncate(1);
