@@ -21,3 +21,6 @@ pub use writing::{
     write_blob, write_blob2, write_dir, write_dir2, write_file, write_file2, write_version,
     write_version2,
 };
+
+#[cfg(test)]
+mod tests;
