@@ -20,3 +20,10 @@ pub use listing::read_listing;
 pub use merger::{Merger, merge_laws};
 pub use path::{is_path, levels, long_part, path_laws};
 pub use planting::{PlantError, Planted, plant};
+
+#[cfg(test)]
+mod gather_tests;
+#[cfg(test)]
+mod plant_tests;
+#[cfg(test)]
+mod tests;
