@@ -1,14 +1,10 @@
 -- Each answer has its cause.
-use Rattle.std.proofs.Common.{◌≡◌, ℕ, List, Option, Some, None, IsSome, Result, Ok, Err, ◌⊎◌, inl, inr, refl, sym, ap, ◌∙◌, subst}
+use Rattle.std.proofs.Common.{◌≡◌, ℕ, List, Option, Some, None, IsSome, Result, Err, inl, inr, refl, sym, subst}
 use Rattle.ms_base.specs.Outside.{OutsideView}
-use Rattle.ms_drill.specs.declared.drill.Drill.{Drill as Schedule}
 use Rattle.ms_drill.specs.Drills.{drill_at}
 use Rattle.ms_record.specs.declared.refusal.Refusal.{Refusal}
-use Rattle.ms_record.specs.declared.refusal.Refusal.TheVariants as refusals
-use Rattle.ms_replay.specs.Audits.{IsAudit}
 use Rattle.ms_replay.specs.declared.audit.Audit.{Audit as Audit_}
 use Rattle.ms_replay.specs.declared.audit.Audit.TheVariants as audits
-use Rattle.ms_replay.specs.declared.dump.Dump.{Dump}
 use Rattle.ms_tree.specs.Listings.{listing_at}
 use Rattle.ms_words.specs.declared.command.Command.{Command}
 use Rattle.ms_words.specs.declared.command.Command.TheVariants.{Audit, Drill, Hash}
@@ -20,7 +16,6 @@ use Rattle.ms_top.specs.Causes.{CauseOf, FaultOf, LongInput, HasFault, HasAnswer
 use Rattle.ms_top.specs.Drills.{RunSays}
 use Rattle.ms_top.specs.Hashes.{FilesSay}
 use Rattle.ms_top.specs.Inputs.{InputGives, OnInput, TextSays}
-use Rattle.ms_top.specs.Steps.{OfValue}
 use Rattle.ms_top.specs.Telling.{report_of}
 use Rattle.ms_top.proofs.TextFaults.{IsTextFault, dump_is, drill_is, listing_is}
 

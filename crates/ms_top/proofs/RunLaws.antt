@@ -1,5 +1,5 @@
 -- What an answer that was told leaves.
-use Rattle.std.proofs.Common.{◌≡◌, ◌≢◌, ℕ, ◌≤◌, ◌<◌, List, Option, Some, None, IsSome, Result, Ok, Err, ◌⊎◌, inl, inr, refl, sym, ap, ◌∙◌, subst, arith}
+use Rattle.std.proofs.Common.{◌≡◌, ◌≢◌, ℕ, ◌<◌, List, Option, Some, None, IsSome, Result, Ok, Err, ◌⊎◌, inl, inr, refl, sym, ap, ◌∙◌, subst, arith}
 use Rattle.ms_base.specs.Counts.{Rose}
 use Rattle.ms_base.specs.Outside.{InputsView, OutsideView, SinkView}
 use Rattle.ms_record.specs.declared.refusal.Refusal.{Refusal}
@@ -14,10 +14,10 @@ use Rattle.ms_top.specs.Audits.{AuditSays}
 use Rattle.ms_top.specs.Causes.{CauseOf}
 use Rattle.ms_top.specs.Drills.{DrillSays}
 use Rattle.ms_top.specs.Hashes.{HashSays}
-use Rattle.ms_top.specs.Inputs.{InputGives, OnInput, ReadsInput}
+use Rattle.ms_top.specs.Inputs.{InputGives, OnInput}
 use Rattle.ms_top.specs.Runs.{Runs}
 use Rattle.ms_top.specs.Steps.{Then}
-use Rattle.ms_top.specs.Telling.{GoesOn, SinkGoesOn, Tells, TellsOrNoMemory, no_memory, report_of}
+use Rattle.ms_top.specs.Telling.{GoesOn, SinkGoesOn, Tells, TellsOrNoMemory, report_of}
 use Rattle.ms_top.specs.Verbs.{VerbSays}
 use Rattle.ms_words.specs.Commands.{command_with}
 use Rattle.ms_words.specs.declared.command.Verb.{Verb}

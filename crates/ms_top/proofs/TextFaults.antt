@@ -1,5 +1,5 @@
 -- A fault of a text is a wrong line, or a limit.
-use Rattle.std.proofs.Common.{◌≡◌, ℕ, ◌+◌, List, [], ◌∷◌, Option, Some, None, Result, Ok, Err, ◌⊎◌, inl, inr, refl, sym, ap, ◌∙◌, Bool, true, false, cond, is_some, nat_lt, length}
+use Rattle.std.proofs.Common.{◌≡◌, ℕ, ◌+◌, List, [], ◌∷◌, Option, Some, None, Result, Ok, Err, ◌⊎◌, inl, inr, sym, ap, Bool, true, false, cond, is_some, nat_lt, length}
 use Rattle.ms_base.specs.declared.names.Quantity.{Quantity}
 use Rattle.ms_base.specs.declared.names.Quantity.TheVariants as quantities
 use Rattle.ms_world.specs.declared.event.Event.{Event}

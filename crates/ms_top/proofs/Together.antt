@@ -1,5 +1,5 @@
 -- The clients of a world hold together.
-use Rattle.std.proofs.Common.{◌≡◌, ℕ, List, ◌++◌, Some, ◌⊎◌, inl, inr, sym, ap, ◌∙◌, slice_get, length, arith}
+use Rattle.std.proofs.Common.{◌≡◌, ℕ, List, ◌++◌, Some, ◌⊎◌, sym, ap, ◌∙◌, slice_get, arith}
 use Rattle.std.proofs.lemmas.List.{get_or_append_left, length-append}
 use Rattle.std.proofs.lemmas.Option.{slice_get_within, slice_get-get_or, get_or_from_slice_get}
 use Rattle.ms_world.specs.Worlds.{ClientView, WorldView}

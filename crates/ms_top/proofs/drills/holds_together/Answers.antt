@@ -1,4 +1,3 @@
-use Rattle.std.proofs.Common.{◌≡◌}
 use Rattle.ms_top.proofs.Together.{together}
 use Rattle.ms_top.proofs.drills.holds_together.Goals as goal
 

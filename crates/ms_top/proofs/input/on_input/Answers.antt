@@ -1,4 +1,4 @@
-use Rattle.std.proofs.Common.{◌≡◌, ℕ, List, inr, refl, subst}
+use Rattle.std.proofs.Common.{ℕ, List, inr, refl, subst}
 use Rattle.ms_base.specs.Outside.{outside}
 use Rattle.ms_top.specs.Verbs.{VerbSays}
 use Rattle.ms_top.proofs.input.on_input.Goals as goal
