@@ -81,6 +81,10 @@ taken_text n k lists part h b e text spells s p l t =
 abbrev pub AreBelow : ℕ → List ℕ → Type 0
 AreBelow n voters = (s : ℕ) → Contains voters s → s < n
 
+-- the first m services are
+pub first_below : (m n : ℕ) (voters : List ℕ) → voters ≡ services_below m → m ≤ n → AreBelow n voters
+first_below m n voters are l s c = let below : s < m = voter_below m s (subst (λ (v : List ℕ). Contains v s) are c) in omega (arith, below, l)
+
 -- whether the number is in the list
 is_among : List ℕ → ℕ → Bool
 is_among voters s = list_any (λ v. v == s) voters

@@ -433,16 +433,45 @@ fn tally_of(alloc: Global, lists: [&[&str]; 3]) -> Option<Tally> {
     let mut tally = Tally::new(alloc, 3).ok()?;
     for service in 0..3 {
         let list = accepts_of(alloc, lists[service])?;
-        tally
-            .add_list(ServiceId(service as u32), list.as_slice())
-            .ok()?;
+        add_to(&mut tally, ServiceId(service as u32), &list)?;
     }
     Some(tally)
 }
 
+/// Lets a list of a tally go on, where there is such a list.
+fn add_to(tally: &mut Tally, service: ServiceId, list: &Items<Bytes>) -> Option<()> {
+    if service.0 >= tally.services() {
+        return None;
+    }
+    tally.add_list(service, list.as_slice()).ok()
+}
+
+/// Service 0 shows `Y` and then `X`, in one piece.
+fn in_one_piece(alloc: Global) -> Option<Standing> {
+    standing(alloc, [&[Y, X], &[], &[]], 3)
+}
+
+/// The same, in two pieces.
+fn in_two_pieces(alloc: Global) -> Option<Standing> {
+    let mut tally = tally_of(alloc, [&[Y], &[], &[]])?;
+    add_to(&mut tally, ServiceId(0), &accepts_of(alloc, &[X])?)?;
+    chosen_of(&tally, 3)
+}
+
+/// A list read in pieces shows what it shows as a whole.
+#[test]
+fn tally_in_pieces(rt: HostRuntime) {
+    let whole = in_one_piece(rt.alloc());
+    assert!(rt; whole.is_some() && in_two_pieces(rt.alloc()) == whole);
+}
+
 /// What these lists show at position 1, where the first so many services vote.
 fn standing(alloc: Global, lists: [&[&str]; 3], voters: u32) -> Option<Standing> {
-    let tally = tally_of(alloc, lists)?;
+    chosen_of(&tally_of(alloc, lists)?, voters)
+}
+
+/// What a tally shows at position 1, where the first so many services vote.
+fn chosen_of(tally: &Tally, voters: u32) -> Option<Standing> {
     if voters < 1 || voters > tally.services() || voters > 16 {
         return None;
     }
