@@ -1,8 +1,7 @@
 //! Bids over three services by scripts of answers.
 
-ghost use Rattle.std.specs.Prelude.{ℕ, ◌<◌, Contains};
+ghost use Rattle.std.specs.Prelude.{◌≡◌, ℕ, ◌<◌, ◌≤◌, Contains, length};
 ghost use Rattle.ms_record.specs.Settings.{IsSetting};
-ghost use Rattle.std.specs.Prelude.{◌≡◌};
 
 use crate::{Act, Answer, Outcome, Proposer, Sight};
 use ms_base::{ClientId, Name, ServiceId};
