@@ -1,0 +1,4 @@
+mod StateLaws
+mod Appending
+mod KeyLaws
+mod KeepingLaws

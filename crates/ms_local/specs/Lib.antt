@@ -1,0 +1,4 @@
+pub mod States
+pub mod Outside
+pub mod Memory
+pub mod Keeping
