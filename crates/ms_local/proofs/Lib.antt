@@ -2,3 +2,4 @@ mod StateLaws
 mod Appending
 mod KeyLaws
 mod KeepingLaws
+mod Running

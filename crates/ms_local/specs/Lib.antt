@@ -2,3 +2,4 @@ pub mod States
 pub mod Outside
 pub mod Memory
 pub mod Keeping
+pub mod Rules
