@@ -3,3 +3,4 @@ pub mod Outside
 pub mod Memory
 pub mod Keeping
 pub mod Rules
+pub mod Desks
