@@ -3,3 +3,4 @@ mod Appending
 mod KeyLaws
 mod KeepingLaws
 mod Running
+mod DeskLaws

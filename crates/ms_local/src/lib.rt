@@ -4,6 +4,7 @@
 pub mod deed;
 pub mod deed_law;
 pub mod desk;
+pub mod desk_law;
 pub mod keeping;
 pub mod kept;
 pub mod memory;
@@ -13,6 +14,7 @@ pub mod spelling;
 pub use deed::{Deed, Deeds, Message, Sight};
 pub use deed_law::{deeds_compose, deeds_go_on};
 pub use desk::{Desk, Lane, begin_line};
+pub use desk_law::{desks_lead, desks_stay};
 pub use keeping::{KeptError, read_kept, write_kept};
 pub use kept::{Base, Kept, Key, Todo};
 pub use memory::{MemoryKeeper, MemoryWork};
