@@ -38,11 +38,18 @@ with_keeper : (desk : DeskView) (keep : KeeperView) → IsDesk desk → keep.tol
     → (desk.keep.told ≡ true → Bounds (desk.keep.texts State) (offers_told desk.pass.lists desk.client) → Bounds (keep.texts State) (offers_told desk.pass.lists desk.client))
     → IsDesk (record desk { keep = keep })
 with_keeper desk keep h told bounds = record {
-  client = h.client; some_services = h.some_services; few_services = h.few_services; owners = h.owners; board = h.board; word = h.word; knows = h.knows;
-  some_lanes = h.some_lanes; lanes = h.lanes;
+  client = h.client;
+  some_services = h.some_services;
+  few_services = h.few_services;
+  owners = h.owners;
+  board = h.board;
+  word = h.word;
+  knows = h.knows;
+  some_lanes = h.some_lanes;
+  lanes = h.lanes;
   telling = λ setting known.
-    let t = h.telling setting known in
-    record { lists = t.lists; texts = told ∙ t.texts; rounds = bounds t.texts t.rounds };
+      let t = h.telling setting known in
+      record { lists = t.lists; texts = told ∙ t.texts; rounds = bounds t.texts t.rounds };
 }
 
 pub read_stays : (desk : DeskView) (faults : ℕ) → IsDesk desk → IsDesk (record desk { keep = record desk.keep { faults = faults } })
@@ -101,21 +108,35 @@ pub state_stays : (desk : DeskView) (kept : Kept) (keep : KeeperView) (result : 
 state_stays desk kept keep result h told may writes =
     with_keeper desk keep h told
     (λ tells bound. let m = may tells in
-      state_bounds kept desk.keep.texts keep.texts (offers_told desk.pass.lists desk.client) m.0 m.1 m.2 (may_have_state kept desk.keep keep result writes tells) bound)
+    state_bounds kept desk.keep.texts keep.texts (offers_told desk.pass.lists desk.client) m.0 m.1 m.2 (may_have_state kept desk.keep keep result writes tells) bound)
 
 -- ---- deeds and the folder
 
 pub deed_stays : (desk : DeskView) (deed : Deed) → IsDesk desk → IsDesk (with_deed desk deed)
 deed_stays desk deed h = record {
-  client = h.client; some_services = h.some_services; few_services = h.few_services; owners = h.owners; board = h.board; word = h.word; knows = h.knows;
-  some_lanes = h.some_lanes; lanes = h.lanes;
+  client = h.client;
+  some_services = h.some_services;
+  few_services = h.few_services;
+  owners = h.owners;
+  board = h.board;
+  word = h.word;
+  knows = h.knows;
+  some_lanes = h.some_lanes;
+  lanes = h.lanes;
   telling = λ setting known. let t = h.telling setting known in record { lists = t.lists; texts = t.texts; rounds = t.rounds };
 }
 
 pub work_stays : (desk : DeskView) (work : WorkView) → IsDesk desk → IsDesk (record desk { work = work })
 work_stays desk work h = record {
-  client = h.client; some_services = h.some_services; few_services = h.few_services; owners = h.owners; board = h.board; word = h.word; knows = h.knows;
-  some_lanes = h.some_lanes; lanes = h.lanes;
+  client = h.client;
+  some_services = h.some_services;
+  few_services = h.few_services;
+  owners = h.owners;
+  board = h.board;
+  word = h.word;
+  knows = h.knows;
+  some_lanes = h.some_lanes;
+  lanes = h.lanes;
   telling = λ setting known. let t = h.telling setting known in record { lists = t.lists; texts = t.texts; rounds = t.rounds };
 }
 
@@ -151,9 +172,9 @@ links_lead : (board : TableId) (services : ℕ) (old new : List LinkView) → Li
 links_lead board services old new stay lane = record {
   all = stay.all ∙ lane.all;
   lead = λ place link got.
-    let b = stay.each place link got in
-    let l = lane.lead place b.0 b.1 in
-    record { on_board = ap (λ (v : LinkView). v.board) b.2.same ∙ l.on_board; to_service = ap (λ (v : LinkView). v.service) b.2.same ∙ l.to_service };
+      let b = stay.each place link got in
+      let l = lane.lead place b.0 b.1 in
+      record { on_board = ap (λ (v : LinkView). v.board) b.2.same ∙ l.on_board; to_service = ap (λ (v : LinkView). v.service) b.2.same ∙ l.to_service };
 }
 
 links_tell : (old new : List LinkView) → LinksStay old new → TellLists old → TellLists new
@@ -164,20 +185,23 @@ links_tell old new stay tell place link got =
 pub call_stays : (desk : DeskView) (pass : Known Item) (lanes : List (List LinkView)) → IsDesk desk → Learns desk.pass pass → LanesStay desk.lanes lanes
     → IsDesk (record desk { pass = pass; lanes = lanes })
 call_stays desk pass lanes h learns stay = record {
-  client = h.client; some_services = h.some_services; few_services = h.few_services; owners = h.owners;
+  client = h.client;
+  some_services = h.some_services;
+  few_services = h.few_services;
+  owners = h.owners;
   board = learns.board ∙ h.board;
   word = learns.word ∙ h.word;
   knows = something_on (list_at desk.pass.lists configuration) (list_at pass.lists configuration) h.knows (learns.more configuration);
   some_lanes = let all = stay.all in let some = h.some_lanes in omega arith;
   lanes = λ place links got. let b = stay.each place links got in links_lead desk.board desk.services b.0 links b.2 (h.lanes place b.0 b.1);
   telling = λ setting known.
-    let begins = subst (λ (items : List Item). IsPrefix (list_at desk.pass.lists configuration) items) known (learns.more configuration) in
-    let t = h.telling setting (begins_one (list_at desk.pass.lists configuration) (Told setting) h.knows begins) in
-    record {
-      lists = λ place links got. let b = stay.each place links got in links_tell b.0 links b.2 (t.lists place b.0 b.1);
-      texts = t.texts;
-      rounds = subst (λ (offers : List Record). Bounds (desk.keep.texts State) offers) (sym (own_offers desk.pass pass desk.client h.word learns)) t.rounds;
-    };
+      let begins = subst (λ (items : List Item). IsPrefix (list_at desk.pass.lists configuration) items) known (learns.more configuration) in
+      let t = h.telling setting (begins_one (list_at desk.pass.lists configuration) (Told setting) h.knows begins) in
+      record {
+        lists = λ place links got. let b = stay.each place links got in links_tell b.0 links b.2 (t.lists place b.0 b.1);
+        texts = t.texts;
+        rounds = subst (λ (offers : List Record). Bounds (desk.keep.texts State) offers) (sym (own_offers desk.pass pass desk.client h.word learns)) t.rounds;
+      };
 }
 
 -- ---- offers
@@ -226,17 +250,24 @@ offer_at desk offer h may =
     let lt = h.client in
     let same : list_at (with_item desk.pass.lists owner (Offer offer)) configuration ≡ list_at desk.pass.lists configuration = set_there desk.pass.lists owner configuration (list_at desk.pass.lists owner ++ Offer offer ∷ []) [] (λ e. omega arith) in
     record {
-      client = h.client; some_services = h.some_services; few_services = h.few_services; owners = h.owners; board = h.board; word = h.word;
+      client = h.client;
+      some_services = h.some_services;
+      few_services = h.few_services;
+      owners = h.owners;
+      board = h.board;
+      word = h.word;
       knows = λ e. h.knows (sym same ∙ e);
-      some_lanes = h.some_lanes; lanes = h.lanes;
+      some_lanes = h.some_lanes;
+      lanes = h.lanes;
       telling = λ setting known.
-        let t = h.telling setting (sym same ∙ known) in
-        let m = may t.texts in
-        record {
-          lists = t.lists; texts = t.texts;
-          rounds = bound_known (round_of (desk.keep.texts State)) m.0 (offers_told (with_item desk.pass.lists owner (Offer offer)) desk.client) m.1
-            (offers_then desk.pass.lists desk.client offer m.0 m.2 (known_bound (round_of (desk.keep.texts State)) m.0 (offers_told desk.pass.lists desk.client) m.1 t.rounds));
-        };
+          let t = h.telling setting (sym same ∙ known) in
+          let m = may t.texts in
+          record {
+            lists = t.lists;
+            texts = t.texts;
+            rounds = bound_known (round_of (desk.keep.texts State)) m.0 (offers_told (with_item desk.pass.lists owner (Offer offer)) desk.client) m.1
+                (offers_then desk.pass.lists desk.client offer m.0 m.2 (known_bound (round_of (desk.keep.texts State)) m.0 (offers_told desk.pass.lists desk.client) m.1 t.rounds));
+          };
     }
 
 pub offer_stays : (desk : DeskView) (offer : Record) → IsDesk desk → HasKeptRound desk (ballot_of offer).round

@@ -28,6 +28,7 @@ object_kept state old new name text h = record {
     off : (q : Name) (b : Bool) → bytes_eq name.0 q.0 ≡ b → Object q ≢ Object name → cond b (Some text) (text_of old q.0) ≡ text_of old q.0
     off q true e apart = absurd (apart (ap (λ (n : Name). Object n) (sym (name_is name q ((bytes_eq-Decides name.0 q.0).0 e)))))
     off q false e apart = refl
+
     others_of : (other : Key) → other ≢ Object name → texts_by state new other ≡ texts_by state old other
     others_of State apart = refl
     others_of (Object q) apart =

@@ -4,3 +4,4 @@ mod KeyLaws
 mod KeepingLaws
 mod Running
 mod DeskLaws
+mod Showing

@@ -199,10 +199,12 @@ state_again law kept h =
     let make : Option Todo → Option Kept = λ t. Some (kept_of kept.round kept.number kept.base kept.head t) in
     let last : (byte_at part >>= λ f. todo_in f.0 f.1 >>= make) ≡ Some kept = bind_on (byte_at part) (λ f. todo_in f.0 f.1) make ∙ ap (λ (o : Option (Option Todo)). o >>= make) (flag_again law kept.todo h.todo) in
     ap state_at (regroup (to_be_bytes w32 kept.round) two (base_text kept.base) kept.head.0 part)
-    ∙ rw (law.within 0 LAST_NUMBER kept.round (two ++ base_rest) (omega arith) h.round (omega (arith, h.round)),
-          law.within 0 LAST_NUMBER kept.number base_rest (omega arith) h.number (omega (arith, h.number)),
-          base_again law kept.base head_rest h.base,
-          law.name kept.head part h.head) last
+    ∙ rw (
+      law.within 0 LAST_NUMBER kept.round (two ++ base_rest) (omega arith) h.round (omega (arith, h.round)),
+      law.within 0 LAST_NUMBER kept.number base_rest (omega arith) h.number (omega (arith, h.number)),
+      base_again law kept.base head_rest h.base,
+      law.name kept.head part h.head,
+    ) last
 
 pub kept_is_read_again : FieldsRead → (kept : Kept) → IsState kept → kept_at (kept_text kept) ≡ Some kept
 unfolding kept_at

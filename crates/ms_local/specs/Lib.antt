@@ -4,3 +4,4 @@ pub mod Memory
 pub mod Keeping
 pub mod Rules
 pub mod Desks
+pub mod Learning

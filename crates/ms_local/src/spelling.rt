@@ -161,4 +161,3 @@ pub fn kept_laws()
     fields_are_spelled();
     spelled_fields_are_read();
 }
-
