@@ -5,3 +5,4 @@ pub mod Keeping
 pub mod Rules
 pub mod Desks
 pub mod Learning
+pub mod Sights

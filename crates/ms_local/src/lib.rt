@@ -10,6 +10,7 @@ pub mod kept;
 pub mod learner;
 pub mod memory;
 pub mod outside;
+pub mod sight_law;
 pub mod spelling;
 
 pub use deed::{Deed, Deeds, Message, Sight};
@@ -21,4 +22,8 @@ pub use kept::{Base, Kept, Key, Todo};
 pub use learner::{LearnError, Learner, Learnt};
 pub use memory::{MemoryKeeper, MemoryWork};
 pub use outside::{Keeper, Work, WorkError};
+pub use sight_law::one_sight;
 pub use spelling::{kept_laws, parse_kept, push_kept};
+
+#[cfg(test)]
+mod tests;
