@@ -35,7 +35,7 @@ const NO_STATES: [&[u8]; 7] = [
     b"K\xff\xff\xff\xff\0\0\0\x07\0\0\0\x02eeeeeeeeeeeeeeeeeeeeeeeeeeeeeeeevvvvvvvvvvvvvvvvvvvvvvvvvvvvvvvvhhhhhhhhhhhhhhhhhhhhhhhhhhhhhhhh\0",
 ];
 
-/// The two states.
+/// The state of the first text; with the todo it is that of the second.
 const STATE: Kept = Kept {
     round: 3,
     number: 7,
@@ -170,8 +170,8 @@ fn an_object_is_kept(rt: HostRuntime) {
     assert!(rt; keeps_an_object(rt.alloc()));
 }
 
-/// How many files a folder has once one is written, one removed where none is, and the last call failed.
-fn files_written(alloc: Global, fails: &[u64]) -> Option<u32> {
+/// How many files an empty folder shows once a file was taken away that was not there, where it is scanned.
+fn files_shown(alloc: Global, fails: &[u64]) -> Option<u32> {
     let fails = Vec::from_slice(alloc, fails).ok()?;
     let mut work = MemoryWork::new(Files::new(alloc), fails);
     let _ = work.remove(alloc, "b");
@@ -183,10 +183,10 @@ fn files_written(alloc: Global, fails: &[u64]) -> Option<u32> {
 
 #[test]
 fn a_folder_is_scanned(rt: HostRuntime) {
-    assert!(rt; files_written(rt.alloc(), &[]) == Some(0));
+    assert!(rt; files_shown(rt.alloc(), &[]) == Some(0));
 }
 
 #[test]
 fn a_folder_that_fails(rt: HostRuntime) {
-    assert!(rt; files_written(rt.alloc(), &[1]).is_none());
+    assert!(rt; files_shown(rt.alloc(), &[1]).is_none());
 }
