@@ -8,7 +8,7 @@ use Rattle.ms_ken.specs.Rows.{item_else}
 use Rattle.ms_core.proofs.Following.{event_may_follow}
 use Rattle.ms_ken.specs.Known.{TableId, Known}
 use Rattle.ms_link.specs.Links.{LinkView, Learns, MayAdd, Stays}
-use Rattle.link_tests.specs.Untold.{IsReady, KnowsUntold}
+use Rattle.link_tests.specs.Untold.{IsReady, IsAsking, KnowsUntold}
 use Rattle.link_tests.specs.Told.{IsMember, KnowsTold}
 use Rattle.ms_record.specs.declared.item.Item.{Item}
 use Rattle.ms_record.specs.declared.item.Item.TheVariants.{Log, Told, Untold}
@@ -42,6 +42,18 @@ ready_stays old new before after ready link learns = record {
   untold = untold_stays before.lists after.lists learns.more ready.untold;
   below = subst (λ (s : ℕ). s < configuration) (sym (ap (λ (l : LinkView). l.service) link.same)) ready.below;
 }
+
+-- a client that may ask for any event may ask on, and for this one
+pub asking_stays : {board : TableId} {old new : LinkView} {before after : Known Item} → IsAsking board old before → Stays old new → Learns before after → IsAsking board new after
+asking_stays asking link learns = record {
+  of_board = asking.of_board ∙ sym (ap (λ (l : LinkView). l.board) link.same);
+  lists = ap (λ (l : LinkView). l.lists) link.same ∙ asking.lists;
+  objects = ap (λ (l : LinkView). l.objects) link.same ∙ asking.objects;
+  ready = ready_stays _ _ _ _ asking.ready link learns;
+}
+
+pub may_ask : {board : TableId} {link : LinkView} {pass : Known Item} → IsAsking board link pass → (event : LogEvent) → MayAdd IsClosed link pass event
+may_ask {link = link} {pass = pass} asking event = any_may_follow link.board.words pass.lists link.service (Log event) asking.ready.below asking.ready.untold
 
 -- what knows a setting knows it alone, where it is closed
 pub told_alone : (setting : Setting) (lists : View) → IsClosed lists → KnowsTold setting lists → list_at lists configuration ≡ Told setting ∷ []

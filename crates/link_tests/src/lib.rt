@@ -3,9 +3,13 @@
 
 pub mod call;
 #[cfg(test)]
+mod client_tests;
+#[cfg(test)]
 mod fault_tests;
 #[cfg(test)]
 mod large_tests;
+#[cfg(test)]
+mod law_tests;
 #[cfg(test)]
 mod memory_tests;
 #[cfg(test)]

@@ -20,7 +20,7 @@ use std::marker::Brand;
 use std::sync::{Arc, Wait};
 use std::test::*;
 
-const NAME: Name = Name([7; 32]);
+pub(crate) const NAME: Name = Name([7; 32]);
 
 /// Two links with faults, one inside the other, over a link to a service; calls on the outer one with their answers; and how many of
 /// them it counts as failed.
