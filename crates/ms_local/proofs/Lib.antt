@@ -1,0 +1,6 @@
+mod StateLaws
+mod Appending
+mod KeyLaws
+mod KeepingLaws
+mod Running
+mod DeskLaws

@@ -1,0 +1,23 @@
+use Rattle.ms_local.proofs.DeskLaws.{deed_stays, work_stays, call_stays, read_stays, object_stays, state_stays, offer_stays}
+use Rattle.ms_local.proofs.desk_law.desks_stay.Goals as goal
+
+pub returns-clause-deed : goal.returns-clause-deed
+returns-clause-deed c = deed_stays
+
+pub returns-clause-work : goal.returns-clause-work
+returns-clause-work c = work_stays
+
+pub returns-clause-call : goal.returns-clause-call
+returns-clause-call c = call_stays
+
+pub returns-clause-read : goal.returns-clause-read
+returns-clause-read c = read_stays
+
+pub returns-clause-object : goal.returns-clause-object
+returns-clause-object c = object_stays
+
+pub returns-clause-state : goal.returns-clause-state
+returns-clause-state c = state_stays
+
+pub returns-clause-offer : goal.returns-clause-offer
+returns-clause-offer c = offer_stays

@@ -1,0 +1,6 @@
+pub mod States
+pub mod Outside
+pub mod Memory
+pub mod Keeping
+pub mod Rules
+pub mod Desks

@@ -1,0 +1,26 @@
+//! Laws of the deeds of a command.
+
+ghost use Rattle.std.specs.Prelude.{◌≡◌, ◌+◌, ◌<◌, ◌++◌, ◌∷◌, [], ℕ, Bool, true, List, Some, Contains};
+ghost use Rattle.ms_local.specs.declared.deed.Deed.{Deed};
+ghost use Rattle.ms_local.specs.declared.deed.Deed.TheVariants as deeds;
+ghost use Rattle.ms_local.specs.Rules.{Bidding, Did, HasRun, Intent, Run, Step, begun_at, bid_begun, done};
+
+/// Deeds of one call and then of another are those of both, and what keeps the rules does so up to each place.
+pub fn deeds_compose()
+    ensures both { (who : ℕ) (s t u : Bidding) (own more : List Intent) (deeds later : List Deed)
+        → Run who s own deeds t → Run who t more later u → Run who s (own ++ more) (deeds ++ later) u }
+    ensures prefix { (who : ℕ) (s u : Bidding) (own : List Intent) (deeds later : List Deed)
+        → Run who s own (deeds ++ later) u → HasRun who s deeds }
+{}
+
+/// What a command did goes on: by nothing, by what a call did, by a deed that may be done next, by the keeping of a new round.
+pub fn deeds_go_on()
+    ensures nothing { (who : ℕ) (old : List Deed) (s : Bidding) → Did who old old s [] s }
+    ensures on { (who : ℕ) (old mid new : List Deed) (s t u : Bidding) (own more : List Intent)
+        → Did who old mid s own t → Did who mid new t more u → Did who old new s (own ++ more) u }
+    ensures may { (who : ℕ) (old mid new : List Deed) (s t : Bidding) (own : List Intent) (deed : Deed)
+        → Did who old mid s own t → new ≡ mid ++ deed ∷ [] → Step who t [] deed (done t deed) [] → Did who old new s own (done t deed) }
+    ensures bid { (who : ℕ) (old mid new : List Deed) (s t : Bidding) (own : List Intent) (intent : Intent) (round : ℕ) (ok : Bool)
+        → Did who old mid s own t → new ≡ mid ++ deeds.Kept round ok ∷ [] → round ≡ t.top + 1
+        → Did who old new s (own ++ intent ∷ []) (bid_begun t intent round ok) }
+{}

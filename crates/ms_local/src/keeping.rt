@@ -1,0 +1,89 @@
+//! Reading and keeping the state.
+
+ghost use Rattle.std.specs.Prelude.{◌≡◌, ◌≤◌, IfOk, IfSome, length};
+ghost use Rattle.ms_local.specs.Keeping.{HasRanges, ReadsKept, WritesKept};
+ghost use Rattle.ms_local.specs.States.{IsBase, IsState, IsTodo};
+
+use crate::kept::{Base, Kept, Key};
+use crate::outside::Keeper;
+use crate::spelling::{kept_laws, parse_kept, push_kept};
+use ms_base::limits::LAST_NUMBER;
+use ms_base::{Name, OutsideError};
+use std::alloc::Global;
+
+/// Why a kept text was not read. The text of the key is absent, or not what it has to be; or the keeper failed, and its count of
+/// faults rose; or memory ran out.
+#[derive(Clone, Copy, Debug, PartialEq, Eq)]
+pub enum KeptError {
+    Damaged { key: Key },
+    Failed,
+    NoMemory,
+}
+
+/// The kept state. `Damaged` exactly where the text of the state, an absent one as empty, is not of the grammar.
+pub fn read_kept<K: Keeper>(alloc: Global, keep: &mut K) -> Result<Kept, KeptError>
+    ensures reads { ReadsKept (K.sees keep.old) (K.sees keep.new) result }
+    ensures ranges { IfOk result IsState }
+    ensures same { K.sees keep.new ≡ record (K.sees keep.old) { faults = (K.sees keep.new).faults } }
+    ensures later { (K.sees keep.old).faults ≤ (K.sees keep.new).faults }
+{
+    match keep.read(alloc, &Key::State) {
+        Ok(Some(text)) => match parse_kept(text.as_slice()) {
+            Some(kept) => Ok(kept),
+            None => Err(KeptError::Damaged { key: Key::State }),
+        },
+        Ok(None) => Err(KeptError::Damaged { key: Key::State }),
+        Err(OutsideError::Failed) => Err(KeptError::Failed),
+        Err(OutsideError::NoMemory) => Err(KeptError::NoMemory),
+    }
+}
+
+/// A name has 32 bytes.
+fn shows_name(name: &Name)
+    ensures { length name.now.0 ≡ 32 }
+{
+    let _bytes: &[u8] = &name.0;
+}
+
+fn shows_base(base: &Base)
+    requires { base.now.position ≤ LAST_NUMBER }
+    ensures { IsBase base.now }
+{
+    shows_name(&base.entry);
+    shows_name(&base.version);
+}
+
+fn shows_todo(kept: &Kept)
+    requires { IfSome kept.now.todo (λ todo. todo.target.position ≤ LAST_NUMBER) }
+    ensures { IfSome kept.now.todo IsTodo }
+{
+    if let Some(todo) = &kept.todo {
+        shows_base(&todo.target);
+        shows_name(&todo.before);
+        shows_name(&todo.after);
+    }
+}
+
+/// A state whose numbers are in their ranges is of the grammar.
+fn shows_state(kept: &Kept)
+    requires { HasRanges kept.now }
+    ensures { IsState kept.now }
+{
+    shows_base(&kept.base);
+    shows_name(&kept.head);
+    shows_todo(kept);
+}
+
+/// Keeps the state, whole or not at all. `Failed` where the count of faults rose.
+pub fn write_kept<K: Keeper>(alloc: Global, keep: &mut K, kept: &Kept) -> Result<(), OutsideError>
+    requires { HasRanges kept.now }
+    ensures writes { WritesKept kept.now (K.sees keep.old) (K.sees keep.new) result }
+    ensures told { (K.sees keep.new).told ≡ (K.sees keep.old).told }
+    ensures later { (K.sees keep.old).faults ≤ (K.sees keep.new).faults }
+{
+    kept_laws();
+    shows_state(kept);
+    let mut text = Vec::new(alloc);
+    push_kept(&mut text, kept)?;
+    keep.write(alloc, &Key::State, text.as_slice())
+}

@@ -1,0 +1,22 @@
+//! What a client has beside the services: its kept state and its work folder, its desk, and the deeds of its commands.
+#![tactic(auto)]
+
+pub mod deed;
+pub mod deed_law;
+pub mod desk;
+pub mod desk_law;
+pub mod keeping;
+pub mod kept;
+pub mod memory;
+pub mod outside;
+pub mod spelling;
+
+pub use deed::{Deed, Deeds, Message, Sight};
+pub use deed_law::{deeds_compose, deeds_go_on};
+pub use desk::{Desk, Lane, begin_line};
+pub use desk_law::{desks_lead, desks_stay};
+pub use keeping::{KeptError, read_kept, write_kept};
+pub use kept::{Base, Kept, Key, Todo};
+pub use memory::{MemoryKeeper, MemoryWork};
+pub use outside::{Keeper, Work, WorkError};
+pub use spelling::{kept_laws, parse_kept, push_kept};

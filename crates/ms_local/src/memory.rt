@@ -1,0 +1,209 @@
+//! A keeper and a work folder in memory, which fail at the calls that they are told.
+
+ghost use Rattle.std.specs.Prelude.{◌≡◌, [], None, IfOk, IsTrue, option_map};
+ghost use Rattle.ms_base.specs.Counts.{Causes};
+ghost use Rattle.ms_base.specs.Memory.{Calls, after_call, first_calls, is_due};
+ghost use Rattle.ms_local.specs.Memory.{keeper_of, texts_by, work_of};
+
+use crate::kept::Key;
+use crate::outside::{Keeper, Work, WorkError};
+use ms_base::{Bytes, Name, NoMemory, OutsideError};
+use ms_tree::Files;
+use std::alloc::Global;
+use std::collections::BTreeMap;
+use std::marker::Model;
+
+/// Counts the calls, and says which of them fail.
+#[derive(Drop)]
+struct Script {
+    fails: Vec<u64>,
+    made: u64,
+    faults: u64,
+}
+
+impl Model for Script {
+    ghost use Rattle.ms_base.specs.Memory.{Calls};
+
+    ghost Value = { Calls };
+
+    ghost view = { λ s. record { fails = s.fails.items; made = s.made; faults = s.faults } };
+}
+
+impl Script {
+    fn new(fails: Vec<u64>) -> Script
+        ensures { result ≡ first_calls fails.items }
+    {
+        Script {
+            fails,
+            made: 0,
+            faults: 0,
+        }
+    }
+
+    /// Whether this call fails.
+    fn call(&mut self) -> bool
+        ensures answer { result ≡ is_due self.old }
+        ensures after { self.new ≡ after_call result self.old }
+        ensures cause { Causes (IsTrue result) self.old.faults self.new.faults }
+    {
+        let failed = self.fails.contains(&self.made);
+        self.made = self.made.saturating_add(1);
+        if failed {
+            self.faults = self.faults.saturating_add(1);
+        }
+        failed
+    }
+}
+
+/// A keeper in memory. The calls of the numbers in `fails`, counted from 0, fail and do nothing.
+#[derive(Drop)]
+pub struct MemoryKeeper {
+    state: Option<Bytes>,
+    objects: BTreeMap<Name, Bytes>,
+    script: Script,
+}
+
+impl Model for MemoryKeeper {
+    ghost use Rattle.ms_local.specs.Memory.{Shelf};
+
+    ghost Value = { Shelf };
+
+    ghost view = { λ k. record { state = k.state; objects = k.objects.entries; calls = k.script } };
+}
+
+impl MemoryKeeper {
+    /// A keeper of no text.
+    pub fn new(alloc: Global, fails: Vec<u64>) -> MemoryKeeper
+        ensures { result ≡ record { state = None; objects = []; calls = first_calls fails.items } }
+    {
+        MemoryKeeper {
+            state: None,
+            objects: BTreeMap::new(alloc),
+            script: Script::new(fails),
+        }
+    }
+
+    /// The text of the key.
+    fn held(&self, key: &Key) -> Option<&Bytes>
+        ensures { option_map (λ t. t.now) result ≡ texts_by self.now.state self.now.objects key.now }
+    {
+        match key {
+            Key::State => self.state.as_ref(),
+            Key::Object { name } => self.objects.get(name),
+        }
+    }
+}
+
+/// A copy of a text.
+fn copy_text(alloc: Global, text: Option<&Bytes>) -> Result<Option<Bytes>, NoMemory>
+    ensures { IfOk result (λ copy. option_map (λ t. t.now) text.entry ≡ copy) }
+{
+    match text {
+        Some(text) => Ok(Some(Bytes::of(alloc, text.as_slice())?)),
+        None => Ok(None),
+    }
+}
+
+impl Keeper for MemoryKeeper {
+    ghost sees = { keeper_of };
+
+    fn read(&mut self, alloc: Global, key: &Key) -> Result<Option<Bytes>, OutsideError> {
+        if self.script.call() {
+            return Err(OutsideError::Failed);
+        }
+        Ok(copy_text(alloc, self.held(key))?)
+    }
+
+    fn write(&mut self, alloc: Global, key: &Key, text: &[u8]) -> Result<(), OutsideError> {
+        if self.script.call() {
+            return Err(OutsideError::Failed);
+        }
+        let text = Bytes::of(alloc, text)?;
+        match key {
+            Key::State => {
+                self.state = Some(text);
+                Ok(())
+            }
+            Key::Object { name } => match self.objects.insert(*name, text) {
+                Ok(_) => Ok(()),
+                Err(_) => Err(OutsideError::NoMemory),
+            },
+        }
+    }
+
+    fn faults(&self) -> u64 {
+        self.script.faults
+    }
+}
+
+/// A work folder in memory. The calls of the numbers in `fails`, counted from 0, fail and do nothing.
+#[derive(Drop)]
+pub struct MemoryWork {
+    files: Files,
+    script: Script,
+}
+
+impl Model for MemoryWork {
+    ghost use Rattle.ms_local.specs.Memory.{Folder};
+
+    ghost Value = { Folder };
+
+    ghost view = { λ w. record { files = w.files; calls = w.script } };
+}
+
+impl MemoryWork {
+    /// A folder with these files.
+    pub fn new(files: Files, fails: Vec<u64>) -> MemoryWork
+        ensures { result ≡ record { files = files; calls = first_calls fails.items } }
+    {
+        MemoryWork {
+            files,
+            script: Script::new(fails),
+        }
+    }
+}
+
+/// A copy of files.
+fn copy_files(alloc: Global, files: &Files) -> Result<Files, NoMemory>
+    ensures { IfOk result (λ copy. copy ≡ files.now) }
+{
+    let rows = files.rows()?;
+    Files::from_rows(alloc, &rows)
+}
+
+impl Work for MemoryWork {
+    ghost sees = { work_of };
+
+    fn scan(&mut self, alloc: Global) -> Result<Files, WorkError> {
+        if self.script.call() {
+            return Err(WorkError::Failed);
+        }
+        match copy_files(alloc, &self.files) {
+            Ok(files) => Ok(files),
+            Err(_) => Err(WorkError::NoMemory),
+        }
+    }
+
+    fn write(&mut self, alloc: Global, path: &str, text: &[u8]) -> Result<(), OutsideError> {
+        if self.script.call() {
+            return Err(OutsideError::Failed);
+        }
+        let text = Bytes::of(alloc, text)?;
+        match self.files.add(path, text) {
+            Ok(_) => Ok(()),
+            Err(_) => Err(OutsideError::NoMemory),
+        }
+    }
+
+    fn remove(&mut self, _alloc: Global, path: &str) -> Result<(), OutsideError> {
+        if self.script.call() {
+            return Err(OutsideError::Failed);
+        }
+        self.files.remove(path);
+        Ok(())
+    }
+
+    fn faults(&self) -> u64 {
+        self.script.faults
+    }
+}
