@@ -1,0 +1,6 @@
+pub mod Sights
+pub mod Shown
+pub mod Ends
+pub mod Bids
+pub mod Steps
+pub mod Truths
