@@ -6,3 +6,4 @@ pub mod FreeNames
 pub mod Existing
 pub mod Answering
 pub mod OneAnswer
+pub mod InTurn
