@@ -3,7 +3,6 @@ use Rattle.std.proofs.Common.{◌≡◌, ◌≢◌, ℕ, zero, suc, ◌+◌, ◌
 use Rattle.std.proofs.lemmas.Bool.{cases_lt}
 use Rattle.std.proofs.lemmas.Bool.Decides.{nat_tests}
 use Rattle.std.proofs.lemmas.List.Elements.{All-nil, All-cons}
-use Rattle.ms_base.specs.declared.limits.TheConstants.{FILES, PART_BYTES, PATH_BYTES, TOTAL_BYTES}
 use Rattle.ms_base.specs.declared.names.Quantity.{Quantity}
 use Rattle.ms_base.specs.declared.names.Quantity.TheVariants as quantities
 use Rattle.ms_record.specs.declared.refusal.Refusal.{Refusal}
@@ -24,18 +23,18 @@ within a b e = grind (arith, nat_tests)
 -- ---- the bytes of all files
 
 -- as long as no sum passes the limit
-small_front : (files : FileList) (place : ℕ) → ((k : ℕ) → k < place → nat_lt TOTAL_BYTES (total_of (take (k + 1) files)) ≡ false) → total_of (take place files) ≤ TOTAL_BYTES
+small_front : (files : FileList) (place : ℕ) → ((k : ℕ) → k < place → nat_lt 1073741824 (total_of (take (k + 1) files)) ≡ false) → total_of (take place files) ≤ 1073741824
 small_front files zero none = omega arith
 small_front files (suc k) none =
     let next : k + 1 ≡ suc k = omega arith in
-    subst (λ (n : ℕ). total_of (take n files) ≤ TOTAL_BYTES) next (within TOTAL_BYTES (total_of (take (k + 1) files)) (none k (omega arith)))
+    subst (λ (n : ℕ). total_of (take n files) ≤ 1073741824) next (within 1073741824 (total_of (take (k + 1) files)) (none k (omega arith)))
 
-first_past : (files : FileList) → TOTAL_BYTES < total_of files → (sum : ℕ) × IsFirstPast files sum
+first_past : (files : FileList) → 1073741824 < total_of files → (sum : ℕ) × IsFirstPast files sum
 first_past files past =
-    elim (first_of_all (λ k. nat_lt TOTAL_BYTES (total_of (take (k + 1) files))) (length files)) [
+    elim (first_of_all (λ k. nat_lt 1073741824 (total_of (take (k + 1) files))) (length files)) [
       | inl f ↦ (
         total_of (take (f.number + 1) files),
-        record { place = f.number; there = f.below; before = small_front files f.number f.before; is = refl; past = above TOTAL_BYTES (total_of (take (f.number + 1) files)) f.passes },
+        record { place = f.number; there = f.below; before = small_front files f.number f.before; is = refl; past = above 1073741824 (total_of (take (f.number + 1) files)) f.passes },
       )
       | inr none ↦ absurd (omega (arith, small_front files (length files) none, ap total_of (take_all (length files) files (omega arith))))
     ]
@@ -73,13 +72,13 @@ has_answer {base} {ours} {theirs} {tag} may = answered (has_merge may).0 (has_me
   where
     answered : (files : FileList) → IsMerge base ours theirs tag files → HasAnswer base ours theirs tag
     answered files merge =
-        elim (cases_lt FILES (length files)) [
-          | inl many ↦ refused files merge quantities.Files (FILES + 1) (many, refl)
-          | inr few ↦ elim (cases_lt TOTAL_BYTES (total_of files)) [
+        elim (cases_lt 100000 (length files)) [
+          | inl many ↦ refused files merge quantities.Files 100001 (many, refl)
+          | inr few ↦ elim (cases_lt 1073741824 (total_of files)) [
             | inl past ↦ (let p = first_past files past in refused files merge quantities.Total p.0 (few, p.1))
-            | inr small ↦ elim (first_long length PATH_BYTES (names_of merge)) [
+            | inr small ↦ elim (first_long length 1024 (names_of merge)) [
               | inl long ↦ refused files merge quantities.Path long.0 (few, small, long.1)
-              | inr short ↦ elim (first_long (λ name. long_part (parts_of name)) PART_BYTES (names_of merge)) [
+              | inr short ↦ elim (first_long (λ name. long_part (parts_of name)) 200 (names_of merge)) [
                 | inl long ↦ refused files merge quantities.Part long.0 (few, small, short, long.1)
                 | inr parts ↦ record { answer = Ok files; has_room = λ e. cc; is = record { merge = merge; whole = merge_whole may merge (record { few = few; small = small; short = short; parts_short = parts }) } }
               ]

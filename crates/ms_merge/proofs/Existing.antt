@@ -1,5 +1,5 @@
 -- A merge of any files: names for its files, and files that have what each path gives.
-use Rattle.std.proofs.Common.{◌≡◌, ℕ, ◌+◌, ◌*◌, ◌^◌, ◌≤◌, Bool, true, false, cond, if◌then◌else◌, List, [], ◌∷◌, ◌++◌, length, length-append, filter, Contains, not, Some, None, is_some, refl, sym, ◌∙◌, ap, subst, inl, inr, arith, Ordering, Less, Equal, Greater, nat_cmp}
+use Rattle.std.proofs.Common.{◌≡◌, ℕ, ◌+◌, ◌≤◌, Bool, true, false, cond, if◌then◌else◌, List, [], ◌∷◌, ◌++◌, length, length-append, filter, Contains, not, Some, None, is_some, refl, sym, ◌∙◌, ap, subst, inl, inr, arith, Ordering, Less, Equal, Greater, nat_cmp}
 use Rattle.std.specs.Ordering.{match_ordering, ordering_reverse}
 use Rattle.std.specs.Cmp.Lexicographic.{slice_cmp, nat_list_cmp_total}
 use Rattle.std.specs.List.{list_any, IsDistinct}
@@ -15,7 +15,6 @@ use Rattle.std.proofs.lemmas.Map.Keys.{IsDistinct-cons}
 use Rattle.std.proofs.lemmas.Map.Made.{is_some-lookup, length-le_from_is_member}
 use Rattle.std.proofs.lemmas.Map.Views.{All-keys-insert_entry}
 use Rattle.std.proofs.lemmas.Slice.Eq.{bytes_eq-Decides}
-use Rattle.ms_base.specs.declared.limits.TheConstants.{FILES}
 use Rattle.ms_tree.specs.Files.{FileList, text_at, with_file}
 use Rattle.ms_tree.specs.Paths.{is_directory_of}
 use Rattle.ms_tree.specs.Merging.{Side, standing, is_conflict, names_of, conflicts, directories, AreTagged, MayMerge, IsMerge}
@@ -31,7 +30,7 @@ pub record HasNames (base ours theirs : FileList) (tag : List ℕ) (given : List
   pub named : FileList
   pub are : AreTagged base ours theirs tag given files named
 
-pub has_names : {base ours theirs : FileList} {tag : List ℕ} → MayMerge base ours theirs tag → (files : FileList) (given : List (List ℕ)) → length given + length files ≤ 2 ^ 31 → HasNames base ours theirs tag given files
+pub has_names : {base ours theirs : FileList} {tag : List ℕ} → MayMerge base ours theirs tag → (files : FileList) (given : List (List ℕ)) → length given + length files ≤ 2147483648 → HasNames base ours theirs tag given files
 has_names may [] given few = record { named = []; are = tt }
 has_names may (f ∷ files) given few =
     let first = has_free may given f.0 (omega arith) in
@@ -195,21 +194,21 @@ few_settled base ours theirs doubled settled rise are =
     ∙ from_side (text_at doubled q) (text_at base q) (text_at ours q) (text_at theirs q) (ap (λ (o : Side). is_some o) (sym (are q)) ∙ is_some-lookup (bytes_eq q) settled ∙ has)) in
     omega (arith, length-map settled (λ (f : List ℕ × List ℕ). f.0), length-map all (λ (f : List ℕ × List ℕ). f.0), length-append doubled (ours ++ theirs), length-append ours theirs)
 
-pub few_conflicts : {base ours theirs : FileList} {tag : List ℕ} → MayMerge base ours theirs tag → length (conflicts base ours theirs) ≤ FILES
+pub few_conflicts : {base ours theirs : FileList} {tag : List ℕ} → MayMerge base ours theirs tag → length (conflicts base ours theirs) ≤ 100000
 few_conflicts {base} {ours} {theirs} may = omega (arith, may.ours_whole.count, fewer (λ f. is_conflict (text_at base f.0) (Some f.1) (text_at theirs f.0)) ours)
 
-pub few_doubled : {base ours theirs : FileList} {tag : List ℕ} → MayMerge base ours theirs tag → (doubled : FileList) → AreTagged base ours theirs tag [] (conflicts base ours theirs) doubled → length doubled ≤ FILES
+pub few_doubled : {base ours theirs : FileList} {tag : List ℕ} → MayMerge base ours theirs tag → (doubled : FileList) → AreTagged base ours theirs tag [] (conflicts base ours theirs) doubled → length doubled ≤ 100000
 few_doubled {base} {ours} {theirs} {tag} may doubled are = omega (arith, few_conflicts may, as_many base ours theirs tag [] (conflicts base ours theirs) doubled are)
 
-pub few_directories : {base ours theirs : FileList} {tag : List ℕ} → MayMerge base ours theirs tag → (doubled settled : FileList) → length doubled ≤ FILES → Rises (keys_of settled)
-    → ((path : List ℕ) → text_at settled path ≡ option_or (text_at doubled path) (settled_at base ours theirs path)) → length (directories settled) ≤ 3 * FILES
+pub few_directories : {base ours theirs : FileList} {tag : List ℕ} → MayMerge base ours theirs tag → (doubled settled : FileList) → length doubled ≤ 100000 → Rises (keys_of settled)
+    → ((path : List ℕ) → text_at settled path ≡ option_or (text_at doubled path) (settled_at base ours theirs path)) → length (directories settled) ≤ 300000
 few_directories {base} {ours} {theirs} may doubled settled few rise are =
     omega (arith, may.ours_whole.count, may.theirs_whole.count, few_settled base ours theirs doubled settled rise are, fewer (λ f. list_any (λ g. is_directory_of f.0 g.0) settled) settled)
 
-pub few_names : {base ours theirs : FileList} {tag : List ℕ} → MayMerge base ours theirs tag → (files : FileList) (merge : IsMerge base ours theirs tag files) → length (names_of merge) ≤ 4 * FILES
+pub few_names : {base ours theirs : FileList} {tag : List ℕ} → MayMerge base ours theirs tag → (files : FileList) (merge : IsMerge base ours theirs tag files) → length (names_of merge) ≤ 400000
 few_names {base} {ours} {theirs} {tag} may files m =
     let few = few_doubled may m.doubled m.are_doubled in
-    let moved : length m.moved ≤ 3 * FILES = omega (arith, as_many base ours theirs tag (keys_of m.doubled) (directories m.settled) m.moved m.are_moved, few_directories may m.doubled m.settled few m.settled_rise m.are_settled) in
+    let moved : length m.moved ≤ 300000 = omega (arith, as_many base ours theirs tag (keys_of m.doubled) (directories m.settled) m.moved m.are_moved, few_directories may m.doubled m.settled few m.settled_rise m.are_settled) in
     omega (arith, length-append (keys_of m.doubled) (keys_of m.moved), length-map m.doubled (λ (f : List ℕ × List ℕ). f.0), length-map m.moved (λ (f : List ℕ × List ℕ). f.0))
 
 -- ---- the merge

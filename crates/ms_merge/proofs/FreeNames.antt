@@ -1,5 +1,5 @@
 -- Free tagged names: fewer names are taken than are tried.
-use Rattle.std.proofs.Common.{◌≡◌, ◌≢◌, ℕ, zero, suc, ◌+◌, ◌-◌, ◌*◌, ◌^◌, ◌<◌, ◌≤◌, Bool, true, false, not, ◌||◌, List, [], ◌∷◌, ◌++◌, length, length-append, map, All, Contains, Some, None, IsSome, is_some, refl, sym, ◌∙◌, ap, subst, append-nil, inl, inr, ◌⊎◌, arith, below_more}
+use Rattle.std.proofs.Common.{◌≡◌, ◌≢◌, ℕ, zero, suc, ◌+◌, ◌*◌, ◌^◌, ◌<◌, ◌≤◌, Bool, true, false, not, ◌||◌, List, [], ◌∷◌, ◌++◌, length, length-append, map, All, Contains, Some, None, IsSome, is_some, refl, sym, ◌∙◌, ap, subst, append-nil, inl, inr, ◌⊎◌, arith, lit<, below_more}
 use Rattle.std.specs.Fmt.{decimal}
 use Rattle.std.specs.List.{list_any, AllByRecursion, IsDistinct}
 use Rattle.std.specs.Map.{keys_of}
@@ -13,7 +13,6 @@ use Rattle.std.proofs.lemmas.Map.Keys.{IsDistinct-cons}
 use Rattle.std.proofs.lemmas.Map.Made.{is_some-lookup, length-le_from_is_member}
 use Rattle.std.proofs.lemmas.Map.Views.{Contains-from_any, list_any-from_Contains}
 use Rattle.std.proofs.lemmas.Slice.Eq.{bytes_eq-Decides}
-use Rattle.ms_base.specs.declared.limits.TheConstants.{FILES, PATH_BYTES}
 use Rattle.ms_tree.specs.Paths.{is_directory_of}
 use Rattle.ms_tree.specs.Files.{FileList, text_at, IsFiles}
 use Rattle.ms_tree.specs.Merging.{Side, tagged, is_taken, is_free, IsTagged, MayMerge}
@@ -53,12 +52,12 @@ begins (first ∷ paths) path front rest h e =
       | inr later ↦ Contains-append_right (prefixes first) (beginnings paths) front (begins paths path front rest later e)
     ]
 
-length-beginnings : (paths : List (List ℕ)) → All (λ path. length path ≤ PATH_BYTES) paths → length (beginnings paths) ≤ (PATH_BYTES + 1) * length paths
+length-beginnings : (paths : List (List ℕ)) → All (λ path. length path ≤ 1024) paths → length (beginnings paths) ≤ 1025 * length paths
 unfolding beginnings
 length-beginnings [] h = omega arith
 length-beginnings (path ∷ paths) h =
-    let short : length path ≤ PATH_BYTES = All-head (λ p. length p ≤ PATH_BYTES) path paths h in
-    let rest = length-beginnings paths (All-tail (λ p. length p ≤ PATH_BYTES) path paths h) in
+    let short : length path ≤ 1024 = All-head (λ p. length p ≤ 1024) path paths h in
+    let rest = length-beginnings paths (All-tail (λ p. length p ≤ 1024) path paths h) in
     omega (arith, length-append (prefixes path) (beginnings paths), length-prefixes path)
 
 -- a path at which a text stands is in the list
@@ -69,8 +68,8 @@ some_text : (o : Side) → IsSome o → (text : List ℕ) × (o ≡ Some text)
 some_text None h = absurd (false≢true h)
 some_text (Some text) h = (text, refl)
 
-short_paths : (files : FileList) → IsFiles files → All (λ path. length path ≤ PATH_BYTES) (keys_of files)
-short_paths files whole = all_from (λ path. length path ≤ PATH_BYTES) (keys_of files) (λ path has.
+short_paths : (files : FileList) → IsFiles files → All (λ path. length path ≤ 1024) (keys_of files)
+short_paths files whole = all_from (λ path. length path ≤ 1024) (keys_of files) (λ path has.
     let here = some_text (text_at files path) (is_some-lookup (bytes_eq path) files ∙ list_any-from_Contains nat_list_eq_equiv path (keys_of files) has) in
     (whole.each path here.0 here.1).path_short)
 
@@ -115,17 +114,17 @@ not_free base ours theirs given name h =
       ])
     ]
 
-few_obstacles : {base ours theirs : FileList} {tag : List ℕ} → MayMerge base ours theirs tag → (given : List (List ℕ)) → length (obstacles base ours theirs given) ≤ 3 * (PATH_BYTES + 1) * FILES + length given
+few_obstacles : {base ours theirs : FileList} {tag : List ℕ} → MayMerge base ours theirs tag → (given : List (List ℕ)) → length (obstacles base ours theirs given) ≤ 307500000 + length given
 few_obstacles {base} {ours} {theirs} may given =
     let one : List (List ℕ) = beginnings (keys_of base) in
     let two : List (List ℕ) = beginnings (keys_of ours) in
     let three : List (List ℕ) = beginnings (keys_of theirs) in
-    let a : length one ≤ (PATH_BYTES + 1) * length base = few base may.base_whole in
-    let b : length two ≤ (PATH_BYTES + 1) * length ours = few ours may.ours_whole in
-    let c : length three ≤ (PATH_BYTES + 1) * length theirs = few theirs may.theirs_whole in
+    let a : length one ≤ 1025 * length base = few base may.base_whole in
+    let b : length two ≤ 1025 * length ours = few ours may.ours_whole in
+    let c : length three ≤ 1025 * length theirs = few theirs may.theirs_whole in
     omega (arith, may.base_whole.count, may.ours_whole.count, may.theirs_whole.count, length-append one (two ++ (three ++ given)), length-append two (three ++ given), length-append three given)
   where
-    few : (files : FileList) → IsFiles files → length (beginnings (keys_of files)) ≤ (PATH_BYTES + 1) * length files
+    few : (files : FileList) → IsFiles files → length (beginnings (keys_of files)) ≤ 1025 * length files
     few files whole = omega (arith, length-beginnings (keys_of files) (short_paths files whole), length-map files (λ (f : List ℕ × List ℕ). f.0))
 
 -- ---- tagged names differ
@@ -210,18 +209,18 @@ not_all_taken base ours theirs tag given path n small many none =
 pub record HasFree (base ours theirs : FileList) (tag : List ℕ) (given : List (List ℕ)) (path : List ℕ) : Type 0 where
   pub name : List ℕ
   pub is : IsTagged base ours theirs tag given path name
-  pub near : is.number < 2 ^ 32 - 1
+  pub near : is.number < 4294967295
 
-pub has_free : {base ours theirs : FileList} {tag : List ℕ} → MayMerge base ours theirs tag → (given : List (List ℕ)) (path : List ℕ) → length given ≤ 2 ^ 31 → HasFree base ours theirs tag given path
+pub has_free : {base ours theirs : FileList} {tag : List ℕ} → MayMerge base ours theirs tag → (given : List (List ℕ)) (path : List ℕ) → length given ≤ 2147483648 → HasFree base ours theirs tag given path
 has_free {base} {ours} {theirs} {tag} may given path few =
     let bound = few_obstacles may given in
-    elim (first_of_all (λ k. is_free base ours theirs given (tagged tag path k)) (2 ^ 32 - 1)) [
+    elim (first_of_all (λ k. is_free base ours theirs given (tagged tag path k)) 4294967295) [
       | inl f ↦ record { name = tagged tag path f.number; is = record { number = f.number; spelled = refl; free = f.passes; first = f.before }; near = f.below }
-      | inr none ↦ absurd (not_all_taken base ours theirs tag given path (2 ^ 32 - 1) (omega arith) (omega arith) none)
+      | inr none ↦ absurd (not_all_taken base ours theirs tag given path 4294967295 (lit< tt) (omega arith) none)
     ]
 
 -- so the tries never end without a free name
-pub all_tried : {base ours theirs : FileList} {tag : List ℕ} → MayMerge base ours theirs tag → (given : List (List ℕ)) (path : List ℕ) (tried : ℕ) → length given ≤ 2 ^ 31 → 2 ^ 32 - 1 ≤ tried
+pub all_tried : {base ours theirs : FileList} {tag : List ℕ} → MayMerge base ours theirs tag → (given : List (List ℕ)) (path : List ℕ) (tried : ℕ) → length given ≤ 2147483648 → 4294967295 ≤ tried
     → ((k : ℕ) → k < tried → is_free base ours theirs given (tagged tag path k) ≡ false) → ⊥
 all_tried {base} {ours} {theirs} may given path tried few end none =
     let f = has_free may given path few in

@@ -1,5 +1,5 @@
 -- Names that are given, one after the other.
-use Rattle.std.proofs.Common.{◌≡◌, ℕ, ◌^◌, ◌<◌, ◌≤◌, Bool, true, false, not, ◌||◌, if◌then◌else◌, List, [], ◌∷◌, ◌++◌, map, take, length, Some, None, is_some, refl, sym, ◌∙◌, ap, subst, append_assoc, append-nil, length-append, arith, suc, ◌+◌}
+use Rattle.std.proofs.Common.{◌≡◌, ℕ, ◌<◌, ◌≤◌, Bool, true, false, not, ◌||◌, if◌then◌else◌, List, [], ◌∷◌, ◌++◌, map, take, length, Some, None, is_some, refl, sym, ◌∙◌, ap, subst, append_assoc, append-nil, length-append, arith, suc, ◌+◌}
 use Rattle.std.specs.List.{list_any}
 use Rattle.std.specs.Map.{keys_of}
 use Rattle.std.specs.Option.{option_or}
@@ -119,7 +119,7 @@ length-names files = length-map (map drafted files) (λ (f : List ℕ × List �
 
 -- there is room for the next name
 pub room : (base ours theirs : FileList) (tag : List ℕ) (files before after : List DraftFile) (place : ℕ) (old new : FileList) → IsNamed base ours theirs tag (map drafted (take place files)) (map drafted before) (map drafted after) old new
-    → length before + length files ≤ 2 ^ 31 → length after ≤ 2 ^ 31
+    → length before + length files ≤ 2147483648 → length after ≤ 2147483648
 room base ours theirs tag files before after place old new n few =
     let all : length (map drafted after) ≡ length (map drafted before ++ n.named) = ap length n.is in
     omega (

@@ -6,4 +6,3 @@ pub mod FreeNames
 pub mod Existing
 pub mod Answering
 pub mod OneAnswer
-pub mod InTurn

@@ -5,7 +5,6 @@ use Rattle.std.proofs.lemmas.Bool.{lt-ltb, le-ltb}
 use Rattle.std.proofs.lemmas.List.{take_more, take-map, map-append, length-map, get_or-map}
 use Rattle.std.proofs.lemmas.List.Elements.{All-head, All-tail, All-push}
 use Rattle.std.proofs.lemmas.List.Sums.{sum_by-cons, sum_by-append}
-use Rattle.ms_base.specs.declared.limits.TheConstants.{FILE_2_BYTES, TOTAL_BYTES}
 use Rattle.ms_tree.specs.declared.files.FileRef.{FileRef}
 use Rattle.ms_tree.specs.declared.draft.DraftFile.{DraftFile}
 use Rattle.ms_tree.specs.DraftFiles.{drafted}
@@ -60,7 +59,7 @@ all_names P names place front all = subst (λ (l : List (List ℕ)). All P l) (a
 -- the first rows are within the limit
 pub record AreAdded (rows : List FileRef) (place total : ℕ) : Type 0 where
   pub sum : total ≡ total_of (map shown (take place rows))
-  pub within : total ≤ TOTAL_BYTES
+  pub within : total ≤ 1073741824
 
 pub added_none : (rows : List FileRef) → AreAdded rows 0 0
 added_none rows = record { sum = refl; within = omega arith }
@@ -77,10 +76,10 @@ sum_more rows place total there sum =
     let one = sum_by-cons length row.text.now [] in
     omega (arith, grown, values, split, one, sum)
 
-pub added_more : (rows : List FileRef) (place total : ℕ) → place < length rows → AreAdded rows place total → total + length (row_at rows place).text.now ≤ TOTAL_BYTES → AreAdded rows (place + 1) (total + length (row_at rows place).text.now)
+pub added_more : (rows : List FileRef) (place total : ℕ) → place < length rows → AreAdded rows place total → total + length (row_at rows place).text.now ≤ 1073741824 → AreAdded rows (place + 1) (total + length (row_at rows place).text.now)
 added_more rows place total there a small = record { sum = sum_more rows place total there a.sum; within = small }
 
-pub added_past : (rows : List FileRef) (place total : ℕ) → place < length rows → AreAdded rows place total → TOTAL_BYTES < total + length (row_at rows place).text.now
+pub added_past : (rows : List FileRef) (place total : ℕ) → place < length rows → AreAdded rows place total → 1073741824 < total + length (row_at rows place).text.now
     → IsFirstPast (map shown rows) (total + length (row_at rows place).text.now)
 added_past rows place total there a past = record {
   place = place;
@@ -90,11 +89,11 @@ added_past rows place total there a past = record {
   past = past;
 }
 
-pub added_all : (rows : List FileRef) (place total : ℕ) → AreAdded rows place total → length rows ≤ place → total_of (map shown rows) ≤ TOTAL_BYTES
+pub added_all : (rows : List FileRef) (place total : ℕ) → AreAdded rows place total → length rows ≤ place → total_of (map shown rows) ≤ 1073741824
 added_all rows place total a all = omega (arith, a.within, a.sum, ap total_of (shown_all shown rows place all))
 
-pub short_rows : (rows : List FileRef) (files : FileList) → map shown rows ≡ files → All (λ f. length f.1 ≤ FILE_2_BYTES) files → All (λ row. length row.text.now ≤ FILE_2_BYTES) rows
+pub short_rows : (rows : List FileRef) (files : FileList) → map shown rows ≡ files → All (λ f. length f.1 ≤ 1073741824) files → All (λ row. length row.text.now ≤ 1073741824) rows
 short_rows rows files is short = λ k d below.
-    let all : All (λ f. length f.1 ≤ FILE_2_BYTES) (map shown rows) = subst (λ (l : FileList). All (λ f. length f.1 ≤ FILE_2_BYTES) l) (sym is) short in
-    let here : length (get_or (map shown rows) k (shown d)).1 ≤ FILE_2_BYTES = all k (shown d) (omega (arith, length-map rows shown, below)) in
-    subst (λ (f : List ℕ × List ℕ). length f.1 ≤ FILE_2_BYTES) (get_or-map shown rows k d (shown d) below) here
+    let all : All (λ f. length f.1 ≤ 1073741824) (map shown rows) = subst (λ (l : FileList). All (λ f. length f.1 ≤ 1073741824) l) (sym is) short in
+    let here : length (get_or (map shown rows) k (shown d)).1 ≤ 1073741824 = all k (shown d) (omega (arith, length-map rows shown, below)) in
+    subst (λ (f : List ℕ × List ℕ). length f.1 ≤ 1073741824) (get_or-map shown rows k d (shown d) below) here

@@ -1,5 +1,5 @@
 -- The steps of a merge together.
-use Rattle.std.proofs.Common.{◌≡◌, ℕ, ◌+◌, ◌^◌, ◌≤◌, if◌then◌else◌, List, [], ◌++◌, length, map, Some, None, is_some, Err, refl, sym, ◌∙◌, ap, subst, arith}
+use Rattle.std.proofs.Common.{◌≡◌, ℕ, ◌+◌, ◌≤◌, if◌then◌else◌, List, [], ◌++◌, length, map, Some, None, is_some, Err, refl, sym, ◌∙◌, ap, subst, arith}
 use Rattle.std.specs.Ordering.{nat_cmp}
 use Rattle.std.specs.Cmp.Lexicographic.{slice_cmp}
 use Rattle.std.specs.List.Sorted.{IsStrictlySortedBy}
@@ -87,7 +87,7 @@ has_merged base ours theirs tag doubled removed moved before given more both set
 
 -- ---- room for all names
 
-pub room_for_doubled : {base ours theirs : FileList} {tag : List ℕ} → MayMerge base ours theirs tag → (before doubled : List DraftFile) → before ≡ [] → map drafted doubled ≡ conflicts base ours theirs → length before + length doubled ≤ 2 ^ 31
+pub room_for_doubled : {base ours theirs : FileList} {tag : List ℕ} → MayMerge base ours theirs tag → (before doubled : List DraftFile) → before ≡ [] → map drafted doubled ≡ conflicts base ours theirs → length before + length doubled ≤ 2147483648
 room_for_doubled may before doubled none are =
     let n = sym (length-map doubled drafted) ∙ ap length are in
     let zero : length before ≡ 0 = ap length none in
@@ -95,7 +95,7 @@ room_for_doubled may before doubled none are =
 
 pub room_for_moved : {base ours theirs : FileList} {tag : List ℕ} → MayMerge base ours theirs tag → (doubled before : FileList) (given moved : List DraftFile) (both settled : FileList) → ((path : List ℕ) → text_at both path ≡ settled_at base ours theirs path)
     → doubled ≡ conflicts base ours theirs → before ≡ [] → IsNamed base ours theirs tag doubled before (map drafted given) both settled → IsStrictlySortedBy (slice_cmp nat_cmp) (keys_of settled)
-    → map drafted moved ≡ directories settled → length given + length moved ≤ 2 ^ 31
+    → map drafted moved ≡ directories settled → length given + length moved ≤ 2147483648
 room_for_moved {base} {ours} {theirs} {tag} may doubled before given moved both settled stands d none named rise are =
     let first : IsNamed base ours theirs tag (conflicts base ours theirs) [] (map drafted given) both settled =
     subst (λ (l : FileList). IsNamed base ours theirs tag (conflicts base ours theirs) l (map drafted given) both settled) none (subst (λ (l : FileList). IsNamed base ours theirs tag l before (map drafted given) both settled) d named) in
@@ -120,6 +120,7 @@ judged_fit base ours theirs tag files names rows named h e f fits =
 pub refused : (base ours theirs : FileList) (tag : List ℕ) (files names rows named : FileList) → HasMerged base ours theirs tag files names → rows ≡ files → named ≡ names → (e : Refusal) → Fits rows (keys_of named) (Err e) → Merges base ours theirs tag (Err e)
 refused base ours theirs tag files names rows named h e f (refusals.Limit what value) passed =
     (files, h.merge, subst (λ (l : List (List ℕ)). PassesLimit files l what value) (ap keys_of f ∙ sym h.names_are) (subst (λ (l : FileList). PassesLimit l (keys_of named) what value) e passed))
+refused base ours theirs tag files names rows named h e f refusals.NoMemory passed = tt
 refused base ours theirs tag files names rows named h e f other passed = absurd passed
 
 pub answered : (base ours theirs : FileList) (tag : List ℕ) (files names answer : FileList) → HasMerged base ours theirs tag files names → IsFiles files → answer ≡ files → IsMerged base ours theirs tag answer

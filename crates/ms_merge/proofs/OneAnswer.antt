@@ -6,7 +6,6 @@ use Rattle.std.proofs.lemmas.Bool.{cases_lt, le-ltb}
 use Rattle.std.proofs.lemmas.List.{take-map, take-take}
 use Rattle.std.proofs.lemmas.List.Elements.{All-head, All-tail}
 use Rattle.std.proofs.lemmas.List.Sums.{sum_by-take-le}
-use Rattle.ms_base.specs.declared.limits.TheConstants.{PART_BYTES, PATH_BYTES, TOTAL_BYTES}
 use Rattle.ms_base.specs.declared.names.Quantity.{Quantity}
 use Rattle.ms_base.specs.declared.names.Quantity.TheVariants as quantities
 use Rattle.ms_record.specs.declared.refusal.Refusal.{Refusal}
@@ -52,7 +51,7 @@ one_past files one other a b =
       ]
     ]
 
-within_all : (files : FileList) (sum : ℕ) → total_of files ≤ TOTAL_BYTES → IsFirstPast files sum → ⊥
+within_all : (files : FileList) (sum : ℕ) → total_of files ≤ 1073741824 → IsFirstPast files sum → ⊥
 within_all files sum small p = omega (arith, small, p.is, p.past, front_total (p.place + 1) files)
 
 one_long : (measure : List ℕ → ℕ) (most : ℕ) (names : List (List ℕ)) (value other : ℕ) → IsFirstLong measure most names value → IsFirstLong measure most names other → value ≡ other
@@ -91,15 +90,15 @@ module _ (files : FileList) (names : List (List ℕ)) where
   one_path : (that : Quantity) (value other : ℕ) → PassesLimit files names quantities.Path value → PassesLimit files names that other → Same quantities.Path value that other
   one_path quantities.Files value other p q = absurd (omega (arith, p.0, q.0))
   one_path quantities.Total value other p q = absurd (within_all files other p.1 q.1)
-  one_path quantities.Path value other p q = ap (refusals.Limit quantities.Path) (one_long length PATH_BYTES names value other p.2 q.2)
-  one_path quantities.Part value other p q = absurd (none_long length PATH_BYTES names value q.2 p.2)
+  one_path quantities.Path value other p q = ap (refusals.Limit quantities.Path) (one_long length 1024 names value other p.2 q.2)
+  one_path quantities.Part value other p q = absurd (none_long length 1024 names value q.2 p.2)
   one_path that value other p q = absurd q
 
   one_part : (that : Quantity) (value other : ℕ) → PassesLimit files names quantities.Part value → PassesLimit files names that other → Same quantities.Part value that other
   one_part quantities.Files value other p q = absurd (omega (arith, p.0, q.0))
   one_part quantities.Total value other p q = absurd (within_all files other p.1 q.1)
-  one_part quantities.Path value other p q = absurd (none_long length PATH_BYTES names other p.2 q.2)
-  one_part quantities.Part value other p q = ap (refusals.Limit quantities.Part) (one_long (λ name. long_part (parts_of name)) PART_BYTES names value other p.3 q.3)
+  one_part quantities.Path value other p q = absurd (none_long length 1024 names other p.2 q.2)
+  one_part quantities.Part value other p q = ap (refusals.Limit quantities.Part) (one_long (λ name. long_part (parts_of name)) 200 names value other p.3 q.3)
   one_part that value other p q = absurd q
 
   one_limit : (what that : Quantity) (value other : ℕ) → PassesLimit files names what value → PassesLimit files names that other → Same what value that other

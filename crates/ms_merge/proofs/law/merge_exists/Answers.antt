@@ -1,7 +1,6 @@
 use Rattle.ms_merge.proofs.Answering.{has_answer}
 use Rattle.ms_merge.proofs.Existing.{has_merge, few_names}
 use Rattle.ms_merge.proofs.FreeNames.{has_free}
-use Rattle.ms_merge.proofs.InTurn.{one_in_turn}
 use Rattle.ms_merge.proofs.OneAnswer.{answers_same}
 use Rattle.ms_merge.proofs.law.merge_exists.Goals as goal
 
@@ -19,6 +18,3 @@ returns-clause-answer c = λ base ours theirs tag may. let a = has_answer may in
 
 pub returns-clause-one_answer : goal.returns-clause-one_answer
 returns-clause-one_answer c = λ base ours theirs tag one other may room more a b. answers_same may one other room more a b
-
-pub returns-clause-in_turn : goal.returns-clause-in_turn
-returns-clause-in_turn c = one_in_turn c.merge_laws.ensures.one
