@@ -22,3 +22,6 @@ pub mod Fronts
 pub mod Offering
 pub mod Supporting
 pub mod Voting
+pub mod OneOffer
+pub mod Outcomes
+pub mod FirstFailing

@@ -1,7 +1,6 @@
 -- Live masters stay placed in every run.
-use Rattle.std.proofs.Common.{◌≡◌, ℕ, ◌+◌, ◌≤◌, List, Option, Some, None, inl, inr, refl, sym, ap, ◌∙◌, subst, zero, suc, slice_get, length, take, IfSome, arith}
+use Rattle.std.proofs.Common.{◌≡◌, ℕ, ◌+◌, ◌≤◌, List, Option, Some, None, inl, inr, sym, ap, ◌∙◌, subst, zero, suc, take, IfSome, arith}
 use Rattle.std.proofs.lemmas.List.{take_all}
-use Rattle.ms_base.specs.declared.names.Name.{Name}
 use Rattle.ms_record.specs.declared.entry.Entry.{Entry}
 use Rattle.ms_record.specs.declared.record.Record.{Record}
 use Rattle.ms_record.specs.declared.setting.Setting.{Setting}

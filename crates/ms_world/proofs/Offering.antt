@@ -1,5 +1,5 @@
 -- What a client's bid comes to, and what it learns, by what it has read.
-use Rattle.std.proofs.Common.{◌≡◌, ℕ, false, [], ◌∷◌, ◌++◌, Some, None, get_or, slice_get, slice_set, ap, ◌∙◌, subst}
+use Rattle.std.proofs.Common.{◌≡◌, ℕ, false, [], ◌∷◌, ◌++◌, Some, None, get_or, slice_set, ap, ◌∙◌, subst}
 use Rattle.ms_world.specs.declared.client.Bidding.{Bidding}
 use Rattle.ms_world.specs.declared.rule.Ruling.{Ruling}
 use Rattle.ms_world.specs.declared.rule.Ruling.TheVariants as rulings

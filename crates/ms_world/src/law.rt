@@ -3,17 +3,21 @@
 ghost use Rattle.std.specs.Prelude.{◌≡◌, ◌+◌, ◌<◌, ◌≤◌, ◌⊎◌, ◌++◌, ◌∷◌, ℕ, All, Contains, List, Some, slice_get};
 ghost use Rattle.ms_world.specs.declared.event.Event.{Event};
 ghost use Rattle.ms_core.specs.Placing.{StaysPlaced};
-ghost use Rattle.ms_world.specs.Steps.{IsEvent, IsRun};
+ghost use Rattle.ms_world.specs.Held.{IsReached};
+ghost use Rattle.ms_world.specs.Refusals.{IsRefused};
+ghost use Rattle.ms_world.specs.Steps.{IsEvent, IsRun, Step};
 ghost use Rattle.ms_core.specs.Valid.{IsValid, IsLive, Names, plan_at};
 ghost use Rattle.ms_core.specs.Views.{MayDeclare, SupportsEvent};
 ghost use Rattle.ms_world.specs.Worlds.{ClientView, WorldView, log_of, offers_in, votes_of_world};
 ghost use Rattle.ms_record.specs.declared.entry.Entry.{Entry};
 ghost use Rattle.ms_record.specs.declared.log.LogEvent.{LogEvent};
 ghost use Rattle.ms_record.specs.declared.record.Record.{Record};
+ghost use Rattle.ms_record.specs.declared.refusal.Why.{Why};
 ghost use Rattle.ms_record.specs.declared.setting.Setting.{Setting};
 ghost use Rattle.ms_record.specs.Chains.{Agrees, Begins, IsChain, IsChosen};
 ghost use Rattle.ms_record.specs.Settings.{IsSetting, origin_of};
 
+use crate::reached::states_hold;
 use ms_record::law::{masters_agree, one_chain};
 use ms_record::record::one_spelling;
 
@@ -61,4 +65,19 @@ pub fn every_run()
     masters_agree();
     one_chain();
     one_spelling();
+}
+
+/// An event has one outcome: it is carried out and leads to one world, or one of its conditions is the first that fails.
+pub fn one_outcome()
+    // An event that is carried out leads to one world.
+    ensures step { (setting : Setting) (w : WorldView) (event : Event) (a b : WorldView) → IsSetting setting → IsReached setting w
+        → Step setting w event a → Step setting w event b → a ≡ b }
+    // One condition is the first that fails.
+    ensures refusal { (setting : Setting) (w : WorldView) (event : Event) (x y : Why)
+        → IsRefused setting w event x → IsRefused setting w event y → x ≡ y }
+    // What is carried out is not refused.
+    ensures apart { (setting : Setting) (w next : WorldView) (event : Event) (why : Why)
+        → Step setting w event next → IsRefused setting w event why → ⊥ }
+{
+    states_hold();
 }

@@ -4,6 +4,7 @@ ghost use Rattle.std.specs.Prelude.{IfSome};
 ghost use Rattle.ms_record.specs.Settings.{IsSetting};
 
 use crate::event::Event;
+use crate::law::one_outcome;
 use crate::world::World;
 use ms_base::{ClientId, Name, ServiceId};
 use ms_record::{Entry, Plan, PlanRow, Refusal, Setting, Why};
@@ -65,6 +66,7 @@ fn a_refused_event_is_not_counted(rt: HostRuntime) -> Result<(), Fail> {
         Some((2, Why::Chosen))
     );
     world.shows();
+    one_outcome();
     assert_eq!(rt; world.known(client), 0);
     assert_eq!(rt; world.chain()?.len(), 0);
     Ok(())

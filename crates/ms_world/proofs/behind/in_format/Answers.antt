@@ -1,8 +1,7 @@
-use Rattle.std.proofs.Common.{◌≡◌, ℕ, List, Option, Some, None, sym, ap, ◌∙◌, subst}
+use Rattle.std.proofs.Common.{◌≡◌, sym, subst}
 use Rattle.ms_world.proofs.Events.{format_keeps}
 use Rattle.ms_world.specs.Steps.{in_format}
-use Rattle.ms_record.specs.declared.plan.PlanRow.{PlanRow}
-use Rattle.ms_record.specs.Plans.{PlanView, IsPlan, plan_of}
+use Rattle.ms_record.specs.Plans.{IsPlan, plan_of}
 use Rattle.ms_world.proofs.behind.in_format.Goals as goal
 
 pub unreachable-requires : goal.unreachable-requires

@@ -1,8 +1,8 @@
-use Rattle.std.proofs.Common.{List, sym, ap, ◌∙◌, subst}
+use Rattle.std.proofs.Common.{List, sym, subst}
 use Rattle.ms_world.proofs.Fronts.{plan_rises}
 use Rattle.ms_world.proofs.Voting.{ruling_by_number}
-use Rattle.ms_world.specs.Rulings.{AreFronts, IsRuling, Rises}
-use Rattle.ms_world.specs.Worlds.{ballot_of_round, known_votes, services_of, voters_of_client}
+use Rattle.ms_world.specs.Rulings.{AreFronts, IsRuling}
+use Rattle.ms_world.specs.Worlds.{ballot_of_round, known_votes, services_of}
 use Rattle.ms_record.specs.declared.log.LogEvent.{LogEvent}
 use Rattle.ms_record.specs.declared.plan.PlanRow.{PlanRow}
 use Rattle.ms_record.specs.Plans.{PlanView}
