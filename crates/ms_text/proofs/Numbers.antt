@@ -10,7 +10,7 @@ use Rattle.std.specs.Str.{all_ascii_digits}
 use Rattle.std.specs.Fmt.{decimal}
 use Rattle.std.proofs.lemmas.Str.Parse.{IsNumeralModel, numerals_by_fold}
 use Rattle.std.proofs.lemmas.Fmt.{decimal-digits_value, digits_decimal, digits_value-decimal, first_decimal, decimal_nonempty, decimal_digit}
-use Rattle.ms_text.specs.Words.{one_more, digits_on, number_at}
+use Rattle.ms_text.specs.Words.{HasNoSpace, one_more, digits_on, number_at}
 
 abbrev pub read_on : ℕ → List ℕ → ℕ
 read_on n [] = n
@@ -99,3 +99,15 @@ decimal_is_read most n word small is le =
     let zero_is : n ≡ 0 → length word ≡ 1 = λ z. ap length is ∙ ap (λ (m : ℕ). length (decimal m)) z ∙ ap length (decimal_digit 0 (omega arith)) in
     let none : leads word ≡ false = unled word some (λ e. elim (cases_lt 0 n) [ inl p ↦ let f : 48 < get_or word 0 0 = first p in absurd (omega arith) | inr z ↦ zero_is (omega arith) ]) in
     rw none (rw value at (again most 0 word digits (omega (arith, value))))
+
+-- no space is a digit
+no_space_in : (word : List ℕ) → all_ascii_digits word ≡ true → HasNoSpace word
+no_space_in [] h i l e = absurd (omega arith)
+no_space_in (c ∷ cs) h zero l e =
+    let q = split (is_ascii_digit c) (all_ascii_digits cs) h in
+    let space : is_ascii_digit 32 ≡ true = subst (λ (b : ℕ). is_ascii_digit b ≡ true) e q.0 in
+    cc
+no_space_in (c ∷ cs) h (suc i) l e = no_space_in cs (split (is_ascii_digit c) (all_ascii_digits cs) h).1 i (omega arith) e
+
+pub numbers_no_space : (n : ℕ) → n < 2 ^ 64 → HasNoSpace (decimal n)
+numbers_no_space n small = no_space_in (decimal n) (digits_decimal own n (omega (arith, small)))

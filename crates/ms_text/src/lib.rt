@@ -7,7 +7,7 @@ pub mod print;
 pub mod words;
 
 pub use label::{Label, is_client_label};
-pub use lines::{Lines, find_byte, first_wrong_lines, next_line};
+pub use lines::{find_byte, first_wrong_lines, next_line};
 pub use print::{push_name, push_number, push_text};
 pub use words::{bytes, hex_bytes, name, number, split_at_space, words_are_joined};
 

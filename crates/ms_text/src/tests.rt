@@ -1,29 +1,35 @@
 //! Lines, words and numbers whose values were known before.
 
 use crate::{
-    Label, Lines, bytes, first_wrong_lines, hex_bytes, is_client_label, name, number, push_name,
+    Label, bytes, first_wrong_lines, hex_bytes, is_client_label, name, next_line, number, push_name,
     push_number, push_text, split_at_space, words_are_joined,
 };
 use std::alloc::Global;
 use std::test::*;
 
-/// Whether the next line is this one.
-fn gives(lines: &mut Lines, line: &[u8]) -> bool {
-    match lines.next() {
-        Some(given) => given == line,
-        None => false,
+/// Texts, each with its first line and the text after it.
+const CUTS: [(&[u8], &[u8], &[u8]); 5] = [
+    (b"ab\n\nc", b"ab", b"\nc"),
+    (b"\nc", b"", b"c"),
+    (b"c", b"c", b""),
+    (b"c\n", b"c", b""),
+    (b"c\r\n", b"c\r", b""),
+];
+
+/// Whether the text has this first line, and this text after it.
+fn is_cut(text: &[u8], line: &[u8], rest: &[u8]) -> bool {
+    if text.is_empty() {
+        return false;
     }
+    let (first, after) = next_line(text);
+    first == line && after == rest
 }
 
 #[test]
 fn a_text_is_cut_at_each_line_feed(rt: HostRuntime) {
-    let mut lines = Lines::new(b"ab\n\nc");
-    assert_eq!(rt; lines.count_left(), 3);
-    assert!(rt; gives(&mut lines, b"ab"));
-    assert!(rt; gives(&mut lines, b""));
-    assert!(rt; gives(&mut lines, b"c"));
-    assert_eq!(rt; lines.number(), 3);
-    assert!(rt; lines.next().is_none());
+    for (text, line, rest) in CUTS {
+        assert!(rt; is_cut(text, line, rest));
+    }
 }
 
 #[test]

@@ -3,7 +3,7 @@
 ghost use Rattle.std.specs.Prelude.{◌≡◌, ◌<◌, ◌≤◌, ◌^◌, ℕ, List, Some, IfOk, IfSome};
 ghost use Rattle.std.specs.Fmt.{decimal};
 ghost use Rattle.std.specs.Option.{option_map};
-ghost use Rattle.ms_text.specs.Words.{WordsAreJoined, two_words, one_more, number_at, hex_at, bytes_at, name_at};
+ghost use Rattle.ms_text.specs.Words.{HasNoSpace, WordsAreJoined, two_words, one_more, number_at, hex_at, bytes_at, name_at};
 
 use crate::lines::find_byte;
 use ms_base::NoMemory;
@@ -89,10 +89,11 @@ pub fn name(word: &[u8]) -> Option<[u8; 32]>
     <[u8; 32] as hex::FromHex>::from_hex(word).ok()
 }
 
-/// A number has one spelling, and that is read.
+/// A number has one spelling, that is read, and no space stands in it.
 pub fn one_spelling()
     ensures read { (most n : ℕ) (word : List ℕ) → most < 2 ^ 64 → number_at most word ≡ Some n → (word ≡ decimal n) × (n ≤ most) }
     ensures again { (most n : ℕ) (word : List ℕ) → most < 2 ^ 64 → word ≡ decimal n → n ≤ most → number_at most word ≡ Some n }
+    ensures no_space { (n : ℕ) → n < 2 ^ 64 → HasNoSpace (decimal n) }
 {}
 
 /// A law: two words joined by one space are read back.
