@@ -48,7 +48,8 @@ fixes v k b e is reads =
 pub one_entry : (v w : Voted) (k q : ℕ) (b c : Ballot) (e f : Entry) → v.text ≡ w.text → record_at v.text ≡ Some (Accept k b e) → record_at w.text ≡ Some (Accept q c f) → (k ≡ q) × (b ≡ c) × (e ≡ f)
 one_entry v w k q b c e f same rv rw = same_accept k q b c e f (sym rv ∙ ap record_at same ∙ rw)
 
-ballots_meet : (b c : Ballot) → IsAtMost b c → IsAtMost c b → c ≡ b
+-- two ballots of which none is above the other are one
+pub ballots_meet : (b c : Ballot) → IsAtMost b c → IsAtMost c b → c ≡ b
 ballots_meet b c l m = let r : c.round ≡ b.round = omega (arith, l.0, m.0) in let s : c.client.0 ≡ b.client.0 = omega (arith, l.1 (sym r), m.1 r) in same_ballot c b r s
 
 equal_of : (o p : Ordering) → o ≡ ordering_reverse p → is_lt o ≡ false → is_lt p ≡ false → is_eq o ≡ true
@@ -59,7 +60,7 @@ equal_of Greater Equal e h k = (let q : Greater ≡ Equal = e in cc)
 equal_of Greater Greater e h k = (let q : Greater ≡ Less = e in cc)
 
 -- two texts of which none comes before the other are one
-texts_meet : (xs ys : List ℕ) → is_lt (slice_cmp nat_cmp xs ys) ≡ false → is_lt (slice_cmp nat_cmp ys xs) ≡ false → xs ≡ ys
+pub texts_meet : (xs ys : List ℕ) → is_lt (slice_cmp nat_cmp xs ys) ≡ false → is_lt (slice_cmp nat_cmp ys xs) ≡ false → xs ≡ ys
 texts_meet xs ys h k = same_text xs ys (sym (sym (is_eq-slice_cmp xs ys) ∙ equal_of (slice_cmp nat_cmp xs ys) (slice_cmp nat_cmp ys xs) (nat_list_cmp_total.antisymm xs ys) h k))
 
 -- a vote between two votes of one text has that text

@@ -10,3 +10,6 @@ pub mod Parts
 pub mod Choosing
 pub mod Agreeing
 pub mod Linking
+pub mod OneStanding
+pub mod OneAudit
+pub mod DumpSpelling

@@ -15,11 +15,13 @@ use Rattle.ms_record.specs.Votes.{ChosenBy, services_below}
 use Rattle.ms_replay.specs.declared.audit.Made.{Made}
 use Rattle.ms_replay.specs.declared.audit.Next.{Next}
 use Rattle.ms_replay.specs.declared.audit.Next.TheVariants as nexts
-use Rattle.ms_replay.specs.declared.standing.Standing.TheVariants.{Split}
+use Rattle.ms_replay.specs.declared.standing.Standing.{Standing}
+use Rattle.ms_replay.specs.declared.standing.Standing.TheVariants.{Unseen, Seen, Chosen, Split}
 use Rattle.ms_replay.specs.Audits.{IsLeastSplit}
-use Rattle.ms_replay.specs.Standings.{IsStanding, IsOnlyChosen}
-use Rattle.ms_replay.specs.Steps.{ChooseOne, LinksTo, GoesOnBy, IsMemberOrEnd, IsNextOf}
-use Rattle.ms_replay.proofs.Choosing.{AreBelow, voter_below}
+use Rattle.ms_replay.specs.Standings.{IsStanding, IsOnlyChosen, NoneChosen}
+use Rattle.ms_replay.specs.Steps.{ChooseOne, LinksTo, GoesOnBy, IsMemberOrEnd, IsNextBy, IsNextOf, OnMember}
+use Rattle.ms_replay.proofs.Agreeing.{none_taken}
+use Rattle.ms_replay.proofs.Choosing.{AreBelow, below_voter, voter_below}
 
 -- ---- the services of a plan
 
@@ -30,13 +32,16 @@ NamesBelow n plan = (i : ℕ) (row : PlanRow) → slice_get plan.rows i ≡ Some
 abbrev service_in : PlanRow → ℕ
 service_in row = row.service.0
 
-pub known_voters : (n : ℕ) (plan : PlanView) (voters : List ℕ) → voters ≡ voters_of plan → NamesBelow n plan → AreBelow n voters
-known_voters n plan voters are h s c =
-    let d : Contains (voters_of plan) s = subst (λ (l : List ℕ). Contains l s) are c in
+pub known_voters : (n : ℕ) (plan : PlanView) → NamesBelow n plan → AreBelow n (voters_of plan)
+known_voters n plan h s d =
     let within : d.0 < length plan.rows = omega (arith, d.1, length-map plan.rows service_in) in
     let at : slice_get plan.rows d.0 ≡ Some (get_or plan.rows d.0 no_row) = slice_get-get_or plan.rows d.0 no_row within in
     let is : service_in (get_or plan.rows d.0 no_row) ≡ s = sym (get_or-map service_in plan.rows d.0 no_row s within) ∙ d.2 in
     omega (arith, is, h d.0 (get_or plan.rows d.0 no_row) at)
+
+-- voters that are these
+pub same_below : (n : ℕ) (voters own : List ℕ) → own ≡ voters → AreBelow n voters → AreBelow n own
+same_below n voters own are h s c = h s (subst (λ (l : List ℕ). Contains l s) are c)
 
 pub first_names : (n : ℕ) (plan : PlanView) → voters_of plan ≡ services_below n → NamesBelow n plan
 first_names n plan are i row at =
@@ -200,3 +205,27 @@ member_is lists n k made entry (nexts.Member e) c m = (
 )
 member_is lists n k made entry nexts.End c m = (λ f g cf cg. c.1 f cf ∙ sym (c.1 g cg), λ e ce links. m (subst (λ (x : Entry). LinksTo made n x) (c.1 e ce) links))
 member_is lists n k made entry (nexts.Split first second) c m = absurd m
+
+-- no entry is chosen, so none goes on
+end_is : (lists : ℕ → List Record) (n k : ℕ) (made : Made) → NoneChosen lists (voters_of made.plan) k → IsNextOf lists n made k nexts.End
+end_is lists n k made none = (λ e f ce cf. absurd (none e ce), λ e ce links. none e ce)
+
+pub next_is : (lists : ℕ → List Record) (n m k : ℕ) (made : Made) (standing : Standing) (next : Next) → AreBelow n (voters_of made.plan) → m ≡ n → IsStanding lists (services_below n) (voters_of made.plan) k standing
+    → IsNextBy m made standing next → IsNextOf lists n made k next
+next_is lists n m k made Unseen next below same h by =
+    subst (λ (x : Next). IsNextOf lists n made k x) (sym by)
+    (end_is lists n k made (λ e. none_taken lists (services_below n) (voters_of made.plan) k e (λ s c. below_voter n s (below s c)) h))
+next_is lists n m k made (Seen vote) next below same h by = subst (λ (x : Next). IsNextOf lists n made k x) (sym by) (end_is lists n k made h.1)
+next_is lists n m k made (Chosen entry) next below same h by = member_is lists n k made entry next h (subst (λ (q : ℕ). IsMemberOrEnd q made entry next) same by)
+next_is lists n m k made (Split first second) next below same h by = subst (λ (x : Next). IsNextOf lists n made k x) (sym by) h
+
+links_at : (n : ℕ) (made : Made) (entry : Entry) (next : Next) → IsMemberOrEnd n made entry next → OnMember made n next
+links_at n made entry (nexts.Member e) h = subst (λ (x : Entry). LinksTo made n x) (sym h.0) h.1
+links_at n made entry nexts.End h = tt
+links_at n made entry (nexts.Split first second) h = absurd h
+
+pub on_member : (n m : ℕ) (made : Made) (standing : Standing) (next : Next) → m ≡ n → IsNextBy m made standing next → OnMember made n next
+on_member n m made Unseen next same by = subst (λ (x : Next). OnMember made n x) (sym by) tt
+on_member n m made (Seen vote) next same by = subst (λ (x : Next). OnMember made n x) (sym by) tt
+on_member n m made (Chosen entry) next same by = links_at n made entry next (subst (λ (q : ℕ). IsMemberOrEnd q made entry next) same by)
+on_member n m made (Split first second) next same by = subst (λ (x : Next). OnMember made n x) (sym by) tt

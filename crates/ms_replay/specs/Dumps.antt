@@ -1,5 +1,5 @@
 -- The grammar of a dump.
-use Rattle.std.specs.Prelude.{◌≡◌, ℕ, ◌&&◌, nat_lt, nat_le, bytes_eq, codes, List, [], ◌∷◌, ◌++◌, Option, Some, None, Result, Ok, Err, if◌then◌else◌, slice_set, slice_index_or, replicate}
+use Rattle.std.specs.Prelude.{◌≡◌, ◌≢◌, ℕ, ◌&&◌, nat_lt, nat_le, bytes_eq, codes, List, [], ◌∷◌, ◌++◌, Option, Some, None, Result, Ok, Err, if◌then◌else◌, slice_set, slice_index_or, replicate}
 use Rattle.std.specs.Option.{option_map}
 use Rattle.ms_record.specs.declared.refusal.Refusal.{Refusal}
 use Rattle.ms_record.specs.declared.refusal.Refusal.TheVariants as refusals
@@ -55,9 +55,9 @@ whole d = d
 abbrev pub dump_at : List ℕ → Result Dump ℕ
 dump_at text = read_lines dump_line whole 1 None (lines_of text)
 
--- the value that is spelled, the first wrong line, or no memory; no other answer comes
+-- the value that is spelled, the first wrong line, or no memory, which hides no wrong head; no other answer comes
 abbrev pub ReadsDump : Result Dump ℕ → Result Dump Refusal → Type 0
 ReadsDump spelled (Ok d) = spelled ≡ Ok d
 ReadsDump spelled (Err (refusals.BadInput places.Input line)) = spelled ≡ Err line
-ReadsDump spelled (Err refusals.NoMemory) = Unit {0}
+ReadsDump spelled (Err refusals.NoMemory) = spelled ≢ Err 1
 ReadsDump spelled (Err other) = ⊥

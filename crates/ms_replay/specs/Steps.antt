@@ -8,7 +8,8 @@ use Rattle.ms_record.specs.Votes.{ChosenBy, services_below}
 use Rattle.ms_replay.specs.declared.audit.Made.{Made}
 use Rattle.ms_replay.specs.declared.audit.Next.{Next}
 use Rattle.ms_replay.specs.declared.audit.Next.TheVariants as nexts
-use Rattle.ms_replay.specs.declared.standing.Standing.TheVariants.{Split}
+use Rattle.ms_replay.specs.declared.standing.Standing.{Standing}
+use Rattle.ms_replay.specs.declared.standing.Standing.TheVariants.{Unseen, Seen, Chosen, Split}
 use Rattle.ms_replay.specs.Standings.{IsStanding}
 
 -- the entry links on to what was made
@@ -37,6 +38,13 @@ abbrev pub IsMemberOrEnd : ℕ → Made → Entry → Next → Type 0
 IsMemberOrEnd services made entry (nexts.Member e) = (e ≡ entry) × LinksTo made services entry
 IsMemberOrEnd services made entry nexts.End = LinksTo made services entry → ⊥
 IsMemberOrEnd services made entry (nexts.Split first second) = ⊥
+
+-- what follows from what the lists show at the next position
+abbrev pub IsNextBy : ℕ → Made → Standing → Next → Type 0
+IsNextBy services made (Chosen entry) next = IsMemberOrEnd services made entry next
+IsNextBy services made (Split first second) next = next ≡ nexts.Split first second
+IsNextBy services made Unseen next = next ≡ nexts.End
+IsNextBy services made (Seen vote) next = next ≡ nexts.End
 
 -- a member links on
 abbrev pub OnMember : Made → ℕ → Next → Type 0

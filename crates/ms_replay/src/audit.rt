@@ -1,12 +1,13 @@
 //! The agreed chain of a dump, or where it is split.
 
-ghost use Rattle.std.specs.Prelude.{◌≡◌, ◌≤◌, ◌<◌, ◌+◌, ℕ, List, Some, IfOk, OnOk, length, slice_get};
-ghost use Rattle.ms_record.specs.declared.plan.PlanRow.{PlanRow};
+ghost use Rattle.std.specs.Prelude.{◌≡◌, ◌≤◌, ◌<◌, ℕ, List, Contains, IfOk, OnOk, length};
 ghost use Rattle.ms_record.specs.declared.record.Record.{Record};
-ghost use Rattle.ms_record.specs.Chains.{plan_after};
+ghost use Rattle.ms_record.specs.Chains.{plan_after, voters_of};
 ghost use Rattle.ms_record.specs.Entries.{name_of};
+ghost use Rattle.ms_record.specs.Votes.{services_below};
 ghost use Rattle.ms_replay.specs.Audits.{AuditsLists, IsAudit, origin_of};
-ghost use Rattle.ms_replay.specs.Steps.{GoesOnBy, IsMemberOrEnd, IsNextOf, OnMember};
+ghost use Rattle.ms_replay.specs.Standings.{IsStanding};
+ghost use Rattle.ms_replay.specs.Steps.{GoesOnBy, IsMemberOrEnd, IsNextBy, IsNextOf, OnMember};
 ghost use Rattle.ms_replay.specs.Tallies.{IsTallyOf};
 ghost use Rattle.ms_replay.specs.declared.audit.Audit.TheVariants as audits;
 
@@ -92,13 +93,34 @@ pub enum Next {
 }
 
 /// What stands at the next position, by the votes of the services of the plan in force.
+#[tactic(auto, using(crate::proofs::Linking::next_is, crate::proofs::Linking::on_member))]
 fn next_of(tally: &Tally, made: &Made, position: u32) -> Next
-    requires { (i : ℕ) (row : PlanRow) → slice_get made.now.plan.rows i ≡ Some row → row.service.0 < tally.now.services }
+    requires known { (s : ℕ) → Contains (voters_of made.now.plan) s → s < tally.now.services }
     ensures links { OnMember made.now tally.now.services result }
     ensures is { (lists : ℕ → List Record) → IsTallyOf lists tally.now → IsNextOf lists tally.now.services made.now position result }
 {
-    match tally.chosen(position, &ServiceSet::of_plan(&made.plan)) {
-        Standing::Chosen { entry } => member_or_end(tally.services(), made, entry),
+    next_by(
+        tally.services(),
+        made,
+        standing_behind(tally, made, position),
+    )
+}
+
+/// What the lists show at the position, where the services of the plan in force vote.
+fn standing_behind(tally: &Tally, made: &Made, position: u32) -> Standing
+    requires known { (s : ℕ) → Contains (voters_of made.now.plan) s → s < tally.now.services }
+    ensures { (lists : ℕ → List Record) → IsTallyOf lists tally.now
+        → IsStanding lists (services_below tally.now.services) (voters_of made.now.plan) position result }
+{
+    tally.chosen(position, &ServiceSet::of_plan(&made.plan))
+}
+
+/// The one chosen entry where it links on, the two of a split, or the end.
+fn next_by(services: u32, made: &Made, standing: Standing) -> Next
+    ensures { IsNextBy services made.now standing result }
+{
+    match standing {
+        Standing::Chosen { entry } => member_or_end(services, made, entry),
         Standing::Split { first, second } => Next::Split { first, second },
         _ => Next::End,
     }

@@ -8,9 +8,10 @@ ghost use Rattle.ms_text.specs.Lines.{lines_of, read_lines};
 ghost use Rattle.ms_text.specs.Firsts.{IsFirstWrong};
 ghost use Rattle.ms_replay.specs.Dumps.{head_at, row_at, push_at, dump_at, dump_line, whole, dump_of, ReadsDump};
 
+use ms_base::limits::{GREATEST_NUMBER, SERVICES};
 use ms_base::{Bytes, Items, Name, NoMemory};
-use ms_record::{Place, Refusal};
-use ms_text::{bytes, name, next_line, number, split_at_space};
+use ms_record::{Place, Refusal, wrong_line};
+use ms_text::{bytes, first_wrong_lines, name, next_line, number, split_at_space};
 use std::alloc::Global;
 
 /// The vote list of each service.
@@ -24,12 +25,6 @@ pub struct Dump {
     pub lists: Lists,
 }
 
-/// The most services.
-const MOST_SERVICES: u64 = 16;
-
-/// The greatest number that a service is given in a text.
-const MOST_NUMBER: u64 = 4_294_967_295;
-
 /// How many services, and the name of the genesis.
 #[tactic(auto, unfolding(crate::specs::Dumps::head_at))]
 fn head(line: &[u8]) -> Option<(u32, Name)>
@@ -39,7 +34,7 @@ fn head(line: &[u8]) -> Option<(u32, Name)>
     let (first, rest) = split_at_space(line)?;
     let (second, rest) = split_at_space(rest)?;
     let (third, fourth) = split_at_space(rest)?;
-    let services = number(third, MOST_SERVICES)?;
+    let services = number(third, u64::from(SERVICES))?;
     let genesis = name(fourth)?;
     if first == b"metasync-dump".as_slice() && second == b"1".as_slice() && services >= 1 {
         Some((services as u32, Name(genesis)))
@@ -58,7 +53,7 @@ fn row(alloc: Global, services: u32, line: &[u8]) -> Result<Option<(u32, Bytes)>
         Some(words) => words,
         None => return Ok(None),
     };
-    let service = match number(first, MOST_NUMBER) {
+    let service = match number(first, GREATEST_NUMBER) {
         Some(service) => service,
         None => return Ok(None),
     };
@@ -103,37 +98,31 @@ pub fn read_dump(alloc: Global, text: &[u8]) -> Result<Dump, Refusal>
     ensures first { (line : ℕ) → result ≡ Err (refusals.BadInput places.Input line) → IsFirstWrong dump_line whole None (lines_of text.now) line }
     ensures lists { IfOk result (λ d. (length d.lists ≡ d.services) × (1 ≤ d.services) × (d.services ≤ 16)) }
 {
+    first_wrong_lines::<Option<Dump>, Dump>();
     read_whole(alloc, text)
 }
 
 /// As `read_dump`.
+#[tactic(auto, using(crate::proofs::DumpSpelling::head_is_right))]
 fn read_whole(alloc: Global, text: &[u8]) -> Result<Dump, Refusal>
     requires { length text.now < 2 ^ 32 - 2 }
     ensures exact { ReadsDump (dump_at text.now) result }
     ensures lists { IfOk result (λ d. (length d.lists ≡ d.services) × (1 ≤ d.services) × (d.services ≤ 16)) }
 {
     if text.is_empty() {
-        return Err(wrong_line(1));
+        return Err(wrong_line(Place::Input, 1));
     }
     let (first, rest) = next_line(text);
     let (services, genesis) = match head(first) {
         Some(head) => head,
-        None => return Err(wrong_line(1)),
+        None => return Err(wrong_line(Place::Input, 1)),
     };
     let lists = empty_lists(alloc, services)?;
     read_rows(alloc, services, genesis, lists, rest)
 }
 
-fn wrong_line(line: u32) -> Refusal
-    ensures { result ≡ refusals.BadInput places.Input line }
-{
-    Refusal::BadInput {
-        place: Place::Input,
-        line,
-    }
-}
-
 /// The rows behind the head.
+#[tactic(auto, using(crate::proofs::DumpSpelling::not_first))]
 fn read_rows(
     alloc: Global,
     services: u32,
@@ -155,7 +144,7 @@ fn read_rows(
             Some((service, text)) => {
                 push_row(&mut lists, service as usize, text)?;
             }
-            None => return Err(wrong_line(line)),
+            None => return Err(wrong_line(Place::Input, line)),
         }
         rest = after;
         line += 1;

@@ -4,6 +4,7 @@
 pub mod acceptor;
 pub mod audit;
 pub mod dump;
+pub mod law;
 mod standing;
 mod tally;
 mod voted;
@@ -11,8 +12,15 @@ mod voted;
 pub use acceptor::{Acceptor, Verdict};
 pub use audit::{Audit, audit_dump};
 pub use dump::{Dump, Lists, read_dump};
+pub use law::{lines_are_spelled, one_audit, one_standing};
 pub use standing::Standing;
 pub use tally::Tally;
 
 #[cfg(test)]
-mod tests;
+mod audit_tests;
+#[cfg(test)]
+mod dump_tests;
+#[cfg(test)]
+mod tally_tests;
+#[cfg(test)]
+mod test_texts;

@@ -23,6 +23,10 @@ loop-position-init c =
       made = λ lists h. starts lists origin made (laws lists) c.new.ensures refl (c.even.ensures.is ∙ ap (λ (m : ℕ). even_plan m 1) c.services.ensures);
     }
 
+pub next_of-requires : goal.next_of-requires
+next_of-requires c =
+    record { known = known_voters c.args.tally.now.services c.loop-position.made.plan c.loop-position.invariant.names }
+
 pub returns-in-End : goal.returns-in-End
 returns-in-End c = λ lists h.
     let n = c.args.tally.now.services in
@@ -55,6 +59,6 @@ returns c = λ lists h.
     let origin = origin_of c.args.genesis.0 n in
     let laws = λ (lists : ℕ → List Record). chain_laws lists origin (c.one_chain.ensures.none lists origin) (λ xs e. c.one_chain.ensures.goes_on lists origin xs e) (λ xs m. c.one_chain.ensures.front lists origin xs m) (λ xs ys. c.one_chain.ensures.one_there lists origin xs ys) in
     let made = c.loop-position.made in
-    let below = known_voters n made.plan (voters_of made.plan) refl c.loop-position.invariant.names in
+    let below = known_voters n made.plan c.loop-position.invariant.names in
     let none = λ (e : Entry). none_past lists c.args.tally.now (voters_of made.plan) c.loop-position.position e h below c.loop-position-test.false in
     made_ends lists origin c.loop-position.position made (laws lists) (c.loop-position.invariant.made lists h) (λ e f ce cf. absurd (none e ce), λ e ce links. none e ce)
