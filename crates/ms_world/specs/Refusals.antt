@@ -81,3 +81,23 @@ IsRefused setting w (events.DropBelow service floor) _ = ⊥
 abbrev pub Tries : Setting → WorldView → Event → WorldView → Option Why → Type 0
 Tries setting old event new None = Step setting old event new
 Tries setting old event new (Some why) = IsRefused setting old event why × (new ≡ old)
+
+-- stopping and reading take no memory
+abbrev pub TakesMemory : Event → Type 0
+TakesMemory (events.Stop client) = ⊥
+TakesMemory (events.Read client service upto) = ⊥
+TakesMemory _ = Unit {0}
+
+-- the conditions that are looked at with memory
+abbrev pub IsLate : Why → Type 0
+IsLate whys.Placed = Unit {0}
+IsLate whys.Promises = Unit {0}
+IsLate whys.Nothing = Unit {0}
+IsLate whys.Chosen = Unit {0}
+IsLate whys.Turned = Unit {0}
+IsLate _ = ⊥
+
+-- the event takes memory, and none of its conditions fails that is looked at before
+pub record MayLackMemory (setting : Setting) (w : WorldView) (event : Event) : Type 0 where
+  pub takes : TakesMemory event
+  pub late : (why : Why) → IsRefused setting w event why → IsLate why

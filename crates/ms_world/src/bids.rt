@@ -3,7 +3,7 @@
 ghost use Rattle.std.specs.Prelude.{◌≡◌, ◌↔◌, All, Some, IsTrue, IfOk, OnOk, OnErr, slice_get};
 ghost use Rattle.ms_world.specs.declared.event.Event.TheVariants as events;
 ghost use Rattle.ms_world.specs.PutTexts.{ArePutsNamed};
-ghost use Rattle.ms_world.specs.Refusals.{Tries};
+ghost use Rattle.ms_world.specs.Refusals.{MayLackMemory, Tries};
 ghost use Rattle.ms_world.specs.States.{IsState, MayBid};
 ghost use Rattle.ms_world.specs.Steps.{IsNextPosition, WantIsPlaced, bid_made};
 ghost use Rattle.ms_world.specs.Worlds.{ClientView};
@@ -38,6 +38,7 @@ impl State {
         requires { IsState setting.now self.old }
         ensures ok { IfOk result (λ why. Tries setting.now self.old (events.Bid client round want) self.new why) }
         ensures err { OnErr result (self.new ≡ self.old) }
+        ensures memory { OnErr result (MayLackMemory setting.now self.old (events.Bid client round want)) }
     {
         let c = match self.up(client) {
             Ok(c) => c,
@@ -67,6 +68,7 @@ impl State {
         requires { IsState setting.now self.old }
         ensures ok { IfOk result (λ why. Tries setting.now self.old (events.Turn client round number plan.now) self.new why) }
         ensures err { OnErr result (self.new ≡ self.old) }
+        ensures memory { OnErr result (MayLackMemory setting.now self.old (events.Turn client round number plan.now)) }
     {
         let c = match self.up(client) {
             Ok(c) => c,
@@ -100,6 +102,7 @@ impl State {
         requires { IsState setting.now self.old }
         ensures ok { IfOk result (λ why. Tries setting.now self.old (events.Migrate client round number version) self.new why) }
         ensures err { OnErr result (self.new ≡ self.old) }
+        ensures memory { OnErr result (MayLackMemory setting.now self.old (events.Migrate client round number version)) }
     {
         let c = match self.up(client) {
             Ok(c) => c,

@@ -2,7 +2,7 @@
 
 ghost use Rattle.std.specs.Prelude.{◌≡◌, ◌≤◌, ◌<◌, ◌↔◌, ◌⊎◌, IsTrue, IfOk, OnOk, OnErr};
 ghost use Rattle.ms_world.specs.declared.event.Event.TheVariants as events;
-ghost use Rattle.ms_world.specs.Refusals.{Tries};
+ghost use Rattle.ms_world.specs.Refusals.{MayLackMemory, Tries};
 ghost use Rattle.ms_world.specs.States.{IsState};
 ghost use Rattle.ms_world.specs.Steps.{IsOpen, IsTurned, vote_list};
 ghost use Rattle.ms_world.specs.Worlds.{logged};
@@ -23,6 +23,7 @@ impl State {
     pub(crate) fn deliver(&mut self, alloc: Global, request: u64) -> Result<Option<Why>, NoMemory>
         ensures ok { IfOk result (λ why. (setting : Setting) → Tries setting self.old (events.Deliver request) self.new why) }
         ensures err { OnErr result (self.new ≡ self.old) }
+        ensures memory { OnErr result ((setting : Setting) → MayLackMemory setting self.old (events.Deliver request)) }
     {
         let Some(sent) = self.requests.get(request as usize) else {
             return Ok(Some(Why::Request));
@@ -36,14 +37,16 @@ impl State {
     /// The service keeps an object under its name, or the condition that fails.
     pub(crate) fn place(
         &mut self,
+        alloc: Global,
         setting: &Setting,
         service: ServiceId,
         generation: u32,
-        text: Bytes,
+        text: &[u8],
     ) -> Result<Option<Why>, NoMemory>
         requires { IsState setting.now self.old }
-        ensures ok { IfOk result (λ why. Tries setting.now self.old (events.Place service generation text) self.new why) }
+        ensures ok { IfOk result (λ why. Tries setting.now self.old (events.Place service generation text.now) self.new why) }
         ensures err { OnErr result (self.new ≡ self.old) }
+        ensures memory { OnErr result (MayLackMemory setting.now self.old (events.Place service generation text.now)) }
     {
         if service.0 >= setting.services {
             return Ok(Some(Why::Service));
@@ -51,6 +54,7 @@ impl State {
         if !is_open(&self.logs[service.0 as usize], generation) {
             return Ok(Some(Why::Generation));
         }
+        let text = Bytes::of(alloc, text)?;
         let name = Name(Sha256::digest(text.as_slice()));
         let event = LogEvent::Put {
             generation,
@@ -71,13 +75,12 @@ impl State {
         generation: u32,
     ) -> Result<Option<Why>, NoMemory>
         requires state { IsState setting.now self.old }
+        requires there { service.0 < setting.now.services }
         requires turned { ((floor ≤ 1) ⊎ (floor ≤ generation)) ↔ IsTurned setting.now self.old floor }
         ensures ok { IfOk result (λ why. Tries setting.now self.old (events.DropBelow service floor) self.new why) }
         ensures err { OnErr result (self.new ≡ self.old) }
+        ensures memory { OnErr result (MayLackMemory setting.now self.old (events.DropBelow service floor)) }
     {
-        if service.0 >= setting.services {
-            return Ok(Some(Why::Service));
-        }
         if floor > 1 && floor > generation {
             return Ok(Some(Why::Turned));
         }

@@ -2,7 +2,7 @@
 
 ghost use Rattle.std.specs.Prelude.{◌≡◌, ◌^◌, ◌<◌, Some, None, IfOk, IfSome, OnOk, OnErr, length, slice_get, slice_index_or, take};
 ghost use Rattle.ms_world.specs.declared.event.Event.TheVariants as events;
-ghost use Rattle.ms_world.specs.Refusals.{Tries};
+ghost use Rattle.ms_world.specs.Refusals.{MayLackMemory, Tries};
 ghost use Rattle.ms_world.specs.Rulings.{AreFronts, IsRuling};
 ghost use Rattle.ms_world.specs.States.{IsState, KnowsOne};
 ghost use Rattle.ms_world.specs.Steps.{offer_made};
@@ -32,6 +32,7 @@ impl State {
         requires { IsState setting.now self.old }
         ensures ok { IfOk result (λ why. Tries setting.now self.old (events.Offer client) self.new why) }
         ensures err { OnErr result (self.new ≡ self.old) }
+        ensures memory { OnErr result (MayLackMemory setting.now self.old (events.Offer client)) }
     {
         let c = match self.up(client) {
             Ok(c) => c,
@@ -62,6 +63,7 @@ impl State {
         requires one { KnowsOne setting.now self.old }
         ensures ok { IfOk result (λ why. Tries setting.now self.old (events.Learn client) self.new why) }
         ensures err { OnErr result (self.new ≡ self.old) }
+        ensures memory { OnErr result (MayLackMemory setting.now self.old (events.Learn client)) }
     {
         let c = match self.up(client) {
             Ok(c) => c,

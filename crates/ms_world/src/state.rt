@@ -2,7 +2,7 @@
 
 ghost use Rattle.std.specs.Prelude.{◌≡◌, ◌≤◌, ◌<◌, ◌++◌, length, map, replicate, slice_set, slice_get, [], Some, IfOk, IfErr, OnOk, OnErr};
 ghost use Rattle.ms_world.specs.declared.event.Event.TheVariants as events;
-ghost use Rattle.ms_world.specs.Refusals.{Tries};
+ghost use Rattle.ms_world.specs.Refusals.{MayLackMemory, Tries};
 ghost use Rattle.ms_world.specs.States.{IsDown, IsState};
 ghost use Rattle.ms_world.specs.Steps.{IsUp};
 ghost use Rattle.ms_world.specs.Worlds.{RequestView, new_client, services_of, start_world, to_all};
@@ -68,8 +68,8 @@ impl State {
     ) -> Result<Option<Why>, NoMemory>
         ensures ok { IfOk result (λ why. Tries setting.now self.old (events.Start client) self.new why) }
         ensures err { OnErr result (self.new ≡ self.old) }
+        ensures memory { OnErr result (MayLackMemory setting.now self.old (events.Start client)) }
     {
-        let known = zeros(alloc, setting.services)?;
         let place = client.0 as usize;
         if place >= self.clients.len() {
             return Ok(Some(Why::Client));
@@ -77,6 +77,7 @@ impl State {
         if self.clients[place].on {
             return Ok(Some(Why::On));
         }
+        let known = zeros(alloc, setting.services)?;
         self.clients[place].start(alloc, known);
         Ok(None)
     }

@@ -3,7 +3,7 @@
 ghost use Rattle.std.specs.Prelude.{◌≡◌, ◌+◌, ◌<◌, ◌^◌, ℕ, List, Some, IfOk, OnErr, length, slice_get};
 ghost use Rattle.ms_world.specs.declared.event.Event.TheVariants as events;
 ghost use Rattle.ms_world.specs.Held.{IsReached, StepsTo};
-ghost use Rattle.ms_world.specs.Refusals.{Tries};
+ghost use Rattle.ms_world.specs.Refusals.{MayLackMemory, Tries};
 ghost use Rattle.ms_world.specs.Steps.{IsEvent};
 ghost use Rattle.ms_world.specs.Worlds.{ClientView, log_of, start_world, votes_of_world};
 ghost use Rattle.ms_core.specs.Placing.{StaysPlaced};
@@ -19,7 +19,7 @@ use crate::event::{Event, Push};
 use crate::law::every_run;
 use crate::reached::{chains_go_on, runs_go_on, states_hold};
 use crate::state::State;
-use ms_base::{Bytes, ClientId, Name, NoMemory, ServiceId};
+use ms_base::{ClientId, Name, NoMemory, ServiceId};
 use ms_record::{Entries, Plan, Refusal, Setting, Why};
 use std::alloc::Global;
 use std::marker::Model;
@@ -150,6 +150,7 @@ fn carry_out(
     requires linked { IsLinked (votes_of_world state.old) (origin_of setting.now) chain.old }
     ensures ok { IfOk result (λ why. Tries setting.now state.old event.now state.new why) }
     ensures err { OnErr result (state.new ≡ state.old) }
+    ensures memory { OnErr result (MayLackMemory setting.now state.old event.now) }
     ensures linked { IsLinked (votes_of_world state.old) (origin_of setting.now) chain.new }
 {
     states_hold();
@@ -185,10 +186,7 @@ fn carry_out(
             service,
             generation,
             text,
-        } => {
-            let text = Bytes::of(alloc, text.as_slice())?;
-            state.place(setting, *service, *generation, text)
-        }
+        } => state.place(alloc, setting, *service, *generation, text.as_slice()),
         Event::DropBelow { service, floor } => {
             drop_below(alloc, setting, state, chain, *service, *floor)
         }
@@ -209,10 +207,14 @@ fn drop_below(
     requires linked { IsLinked (votes_of_world state.old) (origin_of setting.now) chain.old }
     ensures ok { IfOk result (λ why. Tries setting.now state.old (events.DropBelow service floor) state.new why) }
     ensures err { OnErr result (state.new ≡ state.old) }
+    ensures memory { OnErr result (MayLackMemory setting.now state.old (events.DropBelow service floor)) }
     ensures linked { IsLinked (votes_of_world state.old) (origin_of setting.now) chain.new }
 {
     states_hold();
     chains_go_on();
+    if service.0 >= setting.services {
+        return Ok(Some(Why::Service));
+    }
     follow(alloc, setting, state, chain)?;
     let plan = plan_behind(genesis_plan(setting), chain.as_slice());
     state.drop_below(setting, service, floor, plan.generation())
