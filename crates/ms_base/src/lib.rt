@@ -9,6 +9,7 @@ pub mod limits;
 pub mod memory;
 pub mod names;
 pub mod outside;
+pub mod script;
 pub mod standard;
 pub mod streams;
 
@@ -18,6 +19,7 @@ pub use items::Items;
 pub use memory::{InputText, MemoryInputs, VecSink, VecSource};
 pub use names::{ClientId, Name, Quantity, ServiceId};
 pub use outside::{Failed, Inputs, MOST_INPUT, OutsideError, ReadError, Sink, Source};
+pub use script::Script;
 pub use standard::{StdSink, StdSource};
 pub use streams::{read_all, write_all};
 

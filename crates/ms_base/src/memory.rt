@@ -10,65 +10,9 @@ ghost use Rattle.ms_base.specs.declared.outside.ReadError.TheVariants as errors;
 
 use crate::bytes::Bytes;
 use crate::outside::{Failed, Inputs, MOST_INPUT, ReadError, Sink, Source};
+use crate::script::Script;
 use std::alloc::Global;
 use std::marker::Model;
-
-/// Counts the calls, and says which of them fail.
-#[derive(Drop)]
-struct Script {
-    fails: Vec<u64>,
-    made: u64,
-    faults: u64,
-}
-
-impl Model for Script {
-    ghost use Rattle.ms_base.specs.Memory.{Calls};
-
-    ghost Value = { Calls };
-
-    ghost view = { λ s. record { fails = s.fails.items; made = s.made; faults = s.faults } };
-}
-
-impl Script {
-    fn new(fails: Vec<u64>) -> Script
-        ensures { result ≡ record { fails = fails.items; made = 0; faults = 0 } }
-    {
-        Script {
-            fails,
-            made: 0,
-            faults: 0,
-        }
-    }
-
-    /// Whether this call fails.
-    fn call(&mut self) -> bool
-        ensures answer { result ≡ is_due self.old }
-        ensures after { self.new ≡ after_call result self.old }
-        ensures cause { Causes (IsTrue result) self.old.faults self.new.faults }
-    {
-        let failed = self.fails.contains(&self.made);
-        self.made = self.made.saturating_add(1);
-        if failed {
-            self.faults = self.faults.saturating_add(1);
-        }
-        failed
-    }
-
-    /// One fault more.
-    fn fail(&mut self)
-        ensures after { self.new ≡ record self.old { faults = one_more self.old.faults } }
-        ensures rose { Rose self.old.faults self.new.faults }
-        ensures later { self.old.faults ≤ self.new.faults }
-    {
-        self.faults = self.faults.saturating_add(1);
-    }
-
-    fn faults(&self) -> u64
-        ensures { result ≡ self.now.faults }
-    {
-        self.faults
-    }
-}
 
 /// A text that is given in steps.
 #[derive(Drop)]
