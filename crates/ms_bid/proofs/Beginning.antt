@@ -1,17 +1,14 @@
 -- A bid of which nothing was done is in order.
-use Rattle.std.proofs.Common.{◌≡◌, ℕ, ◌<◌, Bool, true, false, List, Option, Some, None, ◌⊎◌, inl, inr, refl, sym, ap, ◌∙◌, subst, length, get_or, replicate, arith}
-use Rattle.std.specs.Prelude.{Contains}
+use Rattle.std.proofs.Common.{◌≡◌, ℕ, Bool, true, false, List, Option, Some, None, inl, inr, sym, ap, ◌∙◌, subst, length, get_or, replicate, arith}
 use Rattle.std.proofs.lemmas.Bool.{cases_lt}
 use Rattle.std.proofs.lemmas.List.{length-replicate, get_or-replicate, get_or_past}
 use Rattle.ms_record.specs.declared.ballot.Ballot.{Ballot}
 use Rattle.ms_record.specs.declared.entry.Entry.{Entry}
 use Rattle.ms_record.specs.Records.{IsBallot, IsPosition}
 use Rattle.ms_bid.specs.declared.act.Act.{Act}
-use Rattle.ms_bid.specs.declared.act.Act.TheVariants.{Keep}
 use Rattle.ms_bid.specs.declared.bid.Bid.{Bid}
-use Rattle.ms_bid.specs.declared.sight.Sight.{Sight}
-use Rattle.ms_bid.specs.Shown.{sight_at}
-use Rattle.ms_bid.specs.Ends.{flag_at, AreBelow}
+use Rattle.ms_record.specs.declared.sight.Sight.{Sight}
+use Rattle.ms_bid.specs.Ends.{AreBelow}
 use Rattle.ms_bid.specs.Bids.{IsBid, IsPending, IsFresh, OnlySeen, OnlyOf}
 
 all_one : {X : Type 0} (n : ℕ) (x : X) (s : ℕ) → get_or (replicate n x) s x ≡ x

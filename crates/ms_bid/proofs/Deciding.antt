@@ -1,6 +1,5 @@
 -- What the sights that a bidder has say of the lists behind them.
-use Rattle.std.proofs.Common.{◌≡◌, ℕ, ◌<◌, Bool, true, false, cond, List, Option, Some, None, ◌⊎◌, inl, inr, refl, sym, ap, ◌∙◌, subst, length, arith}
-use Rattle.std.specs.Prelude.{Contains}
+use Rattle.std.proofs.Common.{◌≡◌, ℕ, ◌<◌, Bool, true, false, cond, List, Option, Some, None, ◌⊎◌, inl, inr, refl, sym, ap, ◌∙◌, subst, length}
 use Rattle.ms_record.specs.declared.ballot.Ballot.{Ballot}
 use Rattle.ms_record.specs.declared.ballot.Vote.{Vote}
 use Rattle.ms_record.specs.declared.entry.Entry.{Entry}
@@ -13,14 +12,14 @@ use Rattle.ms_bid.specs.declared.act.Act.{Act}
 use Rattle.ms_bid.specs.declared.act.Act.TheVariants.{Declare, End}
 use Rattle.ms_bid.specs.declared.act.Outcome.TheVariants.{Decided}
 use Rattle.ms_bid.specs.declared.bid.Bid.{Bid}
-use Rattle.ms_bid.specs.declared.sight.Sight.{Sight}
+use Rattle.ms_record.specs.declared.sight.Sight.{Sight}
 use Rattle.ms_bid.specs.declared.sight.Sought.{Sought}
 use Rattle.ms_bid.specs.declared.sight.Sought.TheVariants.{Promise, Taken}
-use Rattle.ms_bid.specs.Sights.{IsSight, ShowsPromise, ShowsTaken}
+use Rattle.ms_record.specs.Sights.{IsSight, ShowsPromise, ShowsTaken}
 use Rattle.ms_bid.specs.Shown.{shows, sight_at, shown_best, Most, GreatestUpTo}
 use Rattle.ms_bid.specs.Bids.{IsBid, IsPending, IsOfBest, IsOfferOf, OnlySeen}
 use Rattle.ms_bid.specs.Truths.{AreSights, NoneBefore, OneTaken, IsOfferJustified, IsDecidedTaken}
-use Rattle.ms_bid.proofs.BallotOrder.{at_most_cases}
+use Rattle.ms_record.specs.BallotOrder.{at_most_cases}
 use Rattle.std.proofs.lemmas.Bool.{cases_lt}
 use Rattle.std.proofs.lemmas.List.{get_or_past}
 

@@ -1,5 +1,4 @@
 pub mod Beginning
-pub mod BallotOrder
 pub mod Counting
 pub mod Noting
 pub mod Deciding

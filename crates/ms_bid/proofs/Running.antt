@@ -1,5 +1,5 @@
 -- A voter that failed stays so, and is not asked again.
-use Rattle.std.proofs.Common.{◌≡◌, ℕ, ◌<◌, Bool, true, false, List, [], ◌∷◌, Option, Some, None, ◌⊎◌, inl, inr, refl, sym, ap, ◌∙◌, subst, length, slice_set, arith}
+use Rattle.std.proofs.Common.{◌≡◌, ℕ, ◌<◌, Bool, true, false, List, [], ◌∷◌, Option, Some, None, inl, inr, refl, sym, ap, ◌∙◌, subst, length, slice_set, arith}
 use Rattle.std.proofs.lemmas.Bool.{cases_eq}
 use Rattle.std.proofs.lemmas.List.{get_or-set_same, get_or-set_other}
 use Rattle.ms_record.specs.declared.entry.Entry.{Entry}
@@ -9,9 +9,9 @@ use Rattle.ms_bid.specs.declared.act.Act.TheVariants.{Keep, Send, Look, Declare,
 use Rattle.ms_bid.specs.declared.act.Answer.{Answer}
 use Rattle.ms_bid.specs.declared.act.Answer.TheVariants.{Kept, Sent, Seen, Declared, Failed}
 use Rattle.ms_bid.specs.declared.bid.Bid.{Bid}
-use Rattle.ms_bid.specs.declared.sight.Sight.{Sight}
+use Rattle.ms_record.specs.declared.sight.Sight.{Sight}
 use Rattle.ms_bid.specs.Ends.{flag_at}
-use Rattle.ms_bid.specs.Bids.{IsBid, IsPending, fits, noted, with_sight}
+use Rattle.ms_bid.specs.Bids.{IsBid, IsPending, noted, with_sight}
 use Rattle.ms_bid.specs.Steps.{Asks, Takes, Leads}
 
 set_stays : (flags : List Bool) (t s : ℕ) → t < length flags → flag_at flags s ≡ true → flag_at (slice_set flags t true) s ≡ true

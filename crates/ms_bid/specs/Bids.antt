@@ -1,7 +1,6 @@
 -- A bid: what is pending, and what came of what was done.
-use Rattle.std.specs.Prelude.{◌≡◌, ◌≢◌, ℕ, ◌+◌, ◌-◌, ◌*◌, ◌<◌, ◌≤◌, Bool, true, false, List, Option, Some, None, Contains, length, slice_set, replicate, ◌⊎◌}
+use Rattle.std.specs.Prelude.{◌≡◌, ◌≢◌, ℕ, ◌+◌, ◌-◌, Bool, true, false, List, Option, Some, None, Contains, length, slice_set, replicate, ◌⊎◌}
 use Rattle.ms_base.specs.declared.names.ClientId.{ClientId}
-use Rattle.ms_base.specs.declared.names.ServiceId.{ServiceId}
 use Rattle.ms_record.specs.declared.ballot.Ballot.{Ballot}
 use Rattle.ms_record.specs.declared.ballot.Vote.{Vote}
 use Rattle.ms_record.specs.declared.entry.Entry.{Entry}
@@ -15,7 +14,7 @@ use Rattle.ms_bid.specs.declared.act.Answer.TheVariants.{Kept, Sent, Seen, Decla
 use Rattle.ms_bid.specs.declared.act.Outcome.{Outcome}
 use Rattle.ms_bid.specs.declared.act.Outcome.TheVariants.{Decided, Nothing, Outbid, NoMajority, Unlisted, KeepFault}
 use Rattle.ms_bid.specs.declared.bid.Bid.{Bid}
-use Rattle.ms_bid.specs.declared.sight.Sight.{Sight}
+use Rattle.ms_record.specs.declared.sight.Sight.{Sight}
 use Rattle.ms_bid.specs.declared.sight.Sought.{Sought}
 use Rattle.ms_bid.specs.declared.sight.Sought.TheVariants.{Promise, Taken}
 use Rattle.ms_bid.specs.Shown.{sight_at, Most, GreatestUpTo}

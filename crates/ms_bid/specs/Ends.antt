@@ -5,7 +5,7 @@ use Rattle.ms_record.specs.declared.ballot.Ballot.{Ballot}
 use Rattle.ms_record.specs.Ballots.{IsBelow}
 use Rattle.ms_bid.specs.declared.act.Outcome.{Outcome}
 use Rattle.ms_bid.specs.declared.act.Outcome.TheVariants.{Decided, Nothing, Outbid, NoMajority, Unlisted, KeepFault}
-use Rattle.ms_bid.specs.declared.sight.Sight.{Sight}
+use Rattle.ms_record.specs.declared.sight.Sight.{Sight}
 use Rattle.ms_bid.specs.declared.sight.Sought.{Sought}
 use Rattle.ms_bid.specs.Shown.{sight_at, shows}
 

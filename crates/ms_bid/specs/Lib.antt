@@ -1,4 +1,3 @@
-pub mod Sights
 pub mod Shown
 pub mod Ends
 pub mod Bids

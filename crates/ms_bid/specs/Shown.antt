@@ -1,8 +1,8 @@
 -- What the sights of services show together: the Best of greatest ballot, and whether a majority shows what is sought.
-use Rattle.std.specs.Prelude.{◌≡◌, ℕ, ◌*◌, ◌<◌, ◌≤◌, Bool, true, false, List, Option, Some, None, length, slice_index_or, count_by, if◌then◌else◌}
+use Rattle.std.specs.Prelude.{◌≡◌, ℕ, ◌*◌, ◌<◌, ◌≤◌, Bool, false, List, Option, Some, None, length, slice_index_or, count_by, if◌then◌else◌}
 use Rattle.ms_record.specs.declared.ballot.Vote.{Vote}
 use Rattle.ms_record.specs.Ballots.{IsAtMost}
-use Rattle.ms_bid.specs.declared.sight.Sight.{Sight}
+use Rattle.ms_record.specs.declared.sight.Sight.{Sight}
 use Rattle.ms_bid.specs.declared.sight.Sought.{Sought}
 use Rattle.ms_bid.specs.declared.sight.Sought.TheVariants.{Promise, Taken}
 

@@ -1,5 +1,5 @@
 -- Answers taken one after another.
-use Rattle.std.specs.Prelude.{◌≡◌, ℕ, Bool, true, List, [], ◌∷◌}
+use Rattle.std.specs.Prelude.{◌≡◌, ℕ, true, List, [], ◌∷◌}
 use Rattle.ms_bid.specs.declared.act.Act.{Act}
 use Rattle.ms_bid.specs.declared.act.Act.TheVariants.{Keep, Send, Look, Declare, End}
 use Rattle.ms_bid.specs.declared.act.Answer.{Answer}

@@ -9,9 +9,9 @@ use Rattle.ms_record.specs.Votes.{IsTaken, ChosenBy}
 use Rattle.ms_bid.specs.declared.act.Act.TheVariants.{Declare, End}
 use Rattle.ms_bid.specs.declared.act.Outcome.TheVariants.{Decided}
 use Rattle.ms_bid.specs.declared.bid.Bid.{Bid}
-use Rattle.ms_bid.specs.declared.sight.Sight.{Sight}
+use Rattle.ms_record.specs.declared.sight.Sight.{Sight}
 use Rattle.ms_bid.specs.Shown.{sight_at}
-use Rattle.ms_bid.specs.Sights.{IsSight}
+use Rattle.ms_record.specs.Sights.{IsSight}
 
 -- what was seen of each service is what its list shows
 abbrev pub AreSights : (ℕ → List Record) → List (Option Sight) → ℕ → Ballot → Type 0

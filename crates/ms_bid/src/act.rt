@@ -1,9 +1,8 @@
 //! What a bidder does, and what comes of it.
 
 use crate::flags::Flags;
-use crate::sight::Sight;
 use ms_base::ServiceId;
-use ms_record::{Ballot, Entry, Record};
+use ms_record::{Ballot, Entry, Record, Sight};
 
 /// How a bid ends: `docs/PROTOCOL.md`, bids.
 #[derive(Clone, Copy, Debug)]

@@ -3,7 +3,7 @@
 ghost use Rattle.std.specs.Prelude.{◌≡◌, ◌≢◌, ℕ, ◌+◌, ◌-◌, ◌≤◌, ◌<◌, ◌↔◌, List, Option, Contains, IsTrue, IsOk, IfSome, IfNone, OnOk, OnErr, None, Some, length, replicate, slice_set, true, false};
 ghost use Rattle.ms_bid.specs.declared.act.Act.TheVariants.{End};
 ghost use Rattle.ms_bid.specs.declared.act.Outcome.TheVariants.{KeepFault};
-ghost use Rattle.ms_bid.specs.declared.sight.Sight.{Sight};
+ghost use Rattle.ms_record.specs.declared.sight.Sight.{Sight};
 ghost use Rattle.ms_bid.specs.declared.sight.Sought.TheVariants.{Promise};
 ghost use Rattle.ms_bid.specs.Shown.{Most, GreatestUpTo};
 ghost use Rattle.ms_bid.specs.Ends.{AllSent, AllSeen};
@@ -13,9 +13,9 @@ use crate::act::{Act, Answer, Outcome, WrongAnswer};
 use crate::flags::Flags;
 use crate::judging::{end_without_majority, least_greater, most_show, next_free};
 use crate::offer::greatest_best;
-use crate::sight::{Sight, Sights, Sought};
+use crate::sight::{Sights, Sought};
 use ms_base::ServiceId;
-use ms_record::{Ballot, Entry, Record, ServiceSet};
+use ms_record::{Ballot, Entry, Record, ServiceSet, Sight};
 
 /// One bid: which act is pending, and what came of those before it.
 #[derive(Drop)]

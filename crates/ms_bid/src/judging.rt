@@ -9,9 +9,9 @@ ghost use Rattle.ms_bid.specs.Ends.{flag_at, IsHalf, ShowsGreater, NoneGreater, 
 
 use crate::act::Outcome;
 use crate::flags::{Flags, MOST_SERVICES};
-use crate::sight::{Sight, Sights, Sought};
+use crate::sight::{Sights, Sought};
 use ms_base::ServiceId;
-use ms_record::{Ballot, ServiceSet};
+use ms_record::{Ballot, ServiceSet, Sight};
 
 /// How many voters show it.
 fn count_showing(sought: Sought, sights: &Sights, voters: &ServiceSet) -> usize

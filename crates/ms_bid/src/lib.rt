@@ -14,7 +14,7 @@ pub use act::{Act, Answer, Outcome, WrongAnswer};
 pub use bid::Bid;
 pub use flags::Flags;
 pub use proposer::Proposer;
-pub use sight::{Sight, Sights};
+pub use sight::Sights;
 
 #[cfg(test)]
 mod tests;

@@ -3,11 +3,10 @@
 ghost use Rattle.std.specs.Prelude.{◌≡◌, ℕ, ◌+◌, List, Option, Some, None, IfSome, IfNone, IsSomeAnd, true, false, length};
 ghost use Rattle.ms_record.specs.declared.ballot.Vote.{Vote};
 ghost use Rattle.ms_record.specs.Ballots.{IsBelow, IsAtMost};
-ghost use Rattle.ms_bid.specs.declared.sight.Sight.{Sight};
+ghost use Rattle.ms_record.specs.declared.sight.Sight.{Sight};
 ghost use Rattle.ms_bid.specs.Shown.{shown_best, sight_at, GreatestUpTo};
 
-use crate::sight::Sight;
-use ms_record::Vote;
+use ms_record::{Sight, Vote};
 
 /// The Best before the promised Prepare.
 fn best_shown(sight: &Option<Sight>) -> Option<Vote>

@@ -5,21 +5,8 @@ ghost use Rattle.ms_bid.specs.Shown.{shows, sight_at};
 
 use crate::flags::MOST_SERVICES;
 use ms_base::ServiceId;
-use ms_record::{Ballot, Vote};
+use ms_record::Sight;
 use std::marker::Model;
-
-/// What a reading of one vote list shows of the bid of a ballot at a position.
-#[derive(Clone, Copy, Debug)]
-pub struct Sight {
-    /// Whether a Prepare of the ballot is promised.
-    pub promised: bool,
-    /// The Best before the first such Prepare; none where no Prepare of the ballot is promised.
-    pub best: Option<Vote>,
-    /// Whether an Accept of the ballot is taken.
-    pub taken: bool,
-    /// The greatest ballot at the position; none where the list has no record of the position.
-    pub top: Option<Ballot>,
-}
 
 /// What a bidder looks for: its promised Prepare, or, when its offer is declared, its taken Accept.
 #[derive(Clone, Copy, Debug)]
@@ -49,7 +36,7 @@ pub struct Sights {
 
 impl Model for Sights {
     ghost use Rattle.std.specs.Prelude.{◌≡◌, List, Option, length};
-    ghost use Rattle.ms_bid.specs.declared.sight.Sight.{Sight};
+    ghost use Rattle.ms_record.specs.declared.sight.Sight.{Sight};
 
     ghost Value = { List (Option Sight) };
 

@@ -3,9 +3,9 @@
 ghost use Rattle.std.specs.Prelude.{◌≡◌, ℕ, ◌<◌, ◌≤◌, Contains, length};
 ghost use Rattle.ms_record.specs.Settings.{IsSetting};
 
-use crate::{Act, Answer, Outcome, Proposer, Sight};
+use crate::{Act, Answer, Outcome, Proposer};
 use ms_base::{ClientId, Name, ServiceId};
-use ms_record::{Ballot, Entry, Plan, ServiceSet, Setting, Vote};
+use ms_record::{Ballot, Entry, Plan, ServiceSet, Setting, Sight, Vote};
 use std::test::*;
 
 const ZEROS: Name = Name([0; 32]);

@@ -9,7 +9,8 @@ use Rattle.ms_record.specs.declared.record.Record.TheVariants.{Prepare, Accept}
 use Rattle.ms_record.specs.Ballots.{IsBelow, IsAtMost}
 use Rattle.ms_record.specs.Offers.{Shows, IsOffered, IsSoundAt}
 use Rattle.ms_record.specs.Votes.{IsTaken, IsPromised, IsBest, ChosenBy}
-use Rattle.ms_record.proofs.BallotOrder.{ballots_apart, at_most_cases, ballot_induction, not_above, at_most_trans, below_at_most}
+use Rattle.ms_record.specs.BallotOrder.{ballots_apart, at_most_cases, not_above, at_most_trans, below_at_most}
+use Rattle.ms_record.proofs.BallotOrder.{ballot_induction}
 use Rattle.ms_record.proofs.Majorities.{majorities_meet}
 
 -- the places of a promised Prepare and of a taken Accept of a smaller ballot: the Accept stands before

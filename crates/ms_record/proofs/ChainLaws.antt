@@ -1,11 +1,11 @@
 -- Linked lists begin one another, and each chosen entry stands in the chain.
-use Rattle.std.proofs.Common.{◌≡◌, ℕ, zero, suc, ◌+◌, ◌<◌, ◌≤◌, List, [], ◌∷◌, ◌++◌, Option, Some, None, ◌⊎◌, inl, inr, refl, sym, ap, ◌∙◌, subst, slice_get, length, take, drop, get_or, arith}
+use Rattle.std.proofs.Common.{◌≡◌, ℕ, zero, suc, ◌+◌, ◌<◌, ◌≤◌, List, [], ◌∷◌, ◌++◌, Some, ◌⊎◌, inl, inr, refl, sym, ap, ◌∙◌, subst, slice_get, length, take, drop, get_or, arith}
 use Rattle.std.proofs.lemmas.Bool.{cases_lt}
 use Rattle.std.proofs.lemmas.List.{same_lists, length_push, take-append-drop, length-take-le, get_or-take, take-append-le, take_at}
 use Rattle.std.proofs.lemmas.Option.{slice_get-get_or, slice_get_within, none-some}
 use Rattle.ms_record.specs.declared.entry.Entry.{Entry}
 use Rattle.ms_record.specs.declared.record.Record.{Record}
-use Rattle.ms_record.specs.Chains.{Origin, IsLinked, IsChain, IsChosen, IsNext, AgreesAt, Agrees, AllNext, Begins, LinksBehind, voters_behind}
+use Rattle.ms_record.specs.Chains.{Origin, IsLinked, IsChain, IsChosen, AgreesAt, Agrees, AllNext, Begins, LinksBehind, voters_behind}
 use Rattle.ms_record.specs.Votes.{ChosenBy}
 
 pub slice_get-left : (xs ys : List Entry) (i : ℕ) → i < length xs → slice_get (xs ++ ys) i ≡ slice_get xs i

@@ -1,13 +1,12 @@
 -- Where what was taken was offered and each offer is justified, two chosen entries of one position are one, by induction on the position.
-use Rattle.std.proofs.Common.{◌≡◌, ℕ, zero, suc, ◌+◌, ◌≤◌, List, [], ◌∷◌, ◌++◌, refl, sym, ap, ◌∙◌, subst, length, arith}
-use Rattle.std.proofs.lemmas.List.{length_push}
+use Rattle.std.proofs.Common.{◌≡◌, ℕ, zero, suc, ◌+◌, List, [], ◌∷◌, ◌++◌, refl, sym, ◌∙◌, subst, length, arith}
 use Rattle.ms_record.specs.declared.entry.Entry.{Entry}
 use Rattle.ms_record.specs.declared.record.Record.{Record}
-use Rattle.ms_record.specs.Chains.{Origin, IsLinked, IsChosen, Agrees, voters_behind}
-use Rattle.ms_record.specs.Offers.{IsSound, IsSoundAt, IsOffered, JustifiedBy}
+use Rattle.ms_record.specs.Chains.{Origin, IsLinked, Agrees, voters_behind}
+use Rattle.ms_record.specs.Offers.{IsSound, IsSoundAt, JustifiedBy}
 use Rattle.ms_record.specs.Votes.{ChosenBy}
 use Rattle.ms_record.proofs.Agreement.{chosen_agree}
-use Rattle.ms_record.proofs.ChainLaws.{Ends, ends_so, last_chosen, front_linked}
+use Rattle.ms_record.proofs.ChainLaws.{ends_so, last_chosen, front_linked}
 
 -- linked lists of this length are one
 abbrev OneOf : (ℕ → List Record) → Origin → ℕ → Type 0

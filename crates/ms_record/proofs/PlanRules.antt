@@ -1,8 +1,9 @@
 -- The plan rules and the test of them.
-use Rattle.std.proofs.Common.{◌≡◌, ℕ, zero, suc, ◌+◌, ◌/◌, ◌^◌, ◌<◌, ◌≤◌, Bool, true, false, List, [], ◌∷◌, Some, None, refl, sym, ap, ◌∙◌, subst, length, slice_get, arith, cond, eq-eqb}
-use Rattle.std.specs.Prelude.{nat_le, nat_lt, ◌&&◌, ◌==◌}
-use Rattle.std.proofs.lemmas.Bool.{leb-true, ltb-true, eqb-true, le-leb, lt-ltb}
+use Rattle.std.proofs.Common.{◌≡◌, ℕ, zero, suc, ◌+◌, ◌/◌, ◌^◌, ◌<◌, ◌≤◌, Bool, true, false, List, [], ◌∷◌, Some, None, refl, sym, ap, ◌∙◌, subst, length, slice_get, arith, cond}
+use Rattle.std.specs.Prelude.{nat_le, nat_lt, ◌&&◌}
+use Rattle.std.proofs.lemmas.Bool.{leb-true, ltb-true, le-leb, lt-ltb}
 use Rattle.std.proofs.lemmas.Option.{same_Some, none-some, cond_some}
+use Rattle.ms_base.specs.declared.limits.TheConstants.{COPIES, LAST_NUMBER, SERVICES}
 use Rattle.ms_record.specs.declared.plan.PlanRow.{PlanRow}
 use Rattle.ms_record.specs.Plans.{PlanView, IsRow, IsPlan}
 use Rattle.ms_record.specs.PlanTests.{AreCapacities, is_row, are_rows, is_plan, plan_if}
@@ -38,15 +39,15 @@ rising_rows r rs first others (suc i) row next e f =
 
 row_passes : (unit : ℕ) (row : PlanRow) → row.capacity < 2 ^ 64 → is_row unit row ≡ true → IsRow unit row
 row_passes unit row fits h =
-    let p = split (nat_lt row.service.0 16 && nat_le 1 (row.capacity / unit)) (nat_le (row.capacity / unit) 16) h in
-    let q = split (nat_lt row.service.0 16) (nat_le 1 (row.capacity / unit)) p.0 in
-    record { service = ltb-true row.service.0 16 q.0; capacity = fits; some_copies = leb-true 1 (row.capacity / unit) q.1; few_copies = leb-true (row.capacity / unit) 16 p.1 }
+    let p = split (nat_lt row.service.0 SERVICES && nat_le 1 (row.capacity / unit)) (nat_le (row.capacity / unit) COPIES) h in
+    let q = split (nat_lt row.service.0 SERVICES) (nat_le 1 (row.capacity / unit)) p.0 in
+    record { service = ltb-true row.service.0 SERVICES q.0; capacity = fits; some_copies = leb-true 1 (row.capacity / unit) q.1; few_copies = leb-true (row.capacity / unit) COPIES p.1 }
 
 row_keeps : (unit : ℕ) (row : PlanRow) → IsRow unit row → is_row unit row ≡ true
 row_keeps unit row h =
-    joined (nat_lt row.service.0 16 && nat_le 1 (row.capacity / unit)) (nat_le (row.capacity / unit) 16)
-    (joined (nat_lt row.service.0 16) (nat_le 1 (row.capacity / unit)) (lt-ltb row.service.0 16 h.service) (le-leb 1 (row.capacity / unit) h.some_copies))
-    (le-leb (row.capacity / unit) 16 h.few_copies)
+    joined (nat_lt row.service.0 SERVICES && nat_le 1 (row.capacity / unit)) (nat_le (row.capacity / unit) COPIES)
+    (joined (nat_lt row.service.0 SERVICES) (nat_le 1 (row.capacity / unit)) (lt-ltb row.service.0 SERVICES h.service) (le-leb 1 (row.capacity / unit) h.some_copies))
+    (le-leb (row.capacity / unit) COPIES h.few_copies)
 
 -- rows that pass the test keep the rules
 pub rows_pass : (unit low : ℕ) (rows : List PlanRow) → AreCapacities rows → are_rows unit low rows ≡ true → AreRows unit low rows
@@ -82,12 +83,12 @@ plan_passes p unit capacities h =
     let a = split _ (are_rows p.unit 0 p.rows) h in
     let b = split _ (nat_le p.replicas (length p.rows)) a.0 in
     let c = split _ (nat_le 1 p.replicas) b.0 in
-    let d = split _ (nat_le (length p.rows) 16) c.0 in
+    let d = split _ (nat_le (length p.rows) SERVICES) c.0 in
     let e = split _ (nat_le 1 (length p.rows)) d.0 in
     let f = split _ (nat_le 1 p.unit) e.0 in
     let g = split _ (nat_le p.format 2) f.0 in
     let j = split _ (nat_le 1 p.format) g.0 in
-    let k = split (nat_le 1 p.generation) (nat_le p.generation 4294967294) j.0 in
+    let k = split (nat_le 1 p.generation) (nat_le p.generation LAST_NUMBER) j.0 in
     let rows = rows_pass p.unit 0 p.rows capacities a.1 in
     record {
       some_generation = leb-true _ _ k.0;
@@ -112,12 +113,12 @@ plan_keeps p h =
     joined _ (are_rows p.unit 0 p.rows)
     (joined _ (nat_le p.replicas (length p.rows))
     (joined _ (nat_le 1 p.replicas)
-    (joined _ (nat_le (length p.rows) 16)
+    (joined _ (nat_le (length p.rows) SERVICES)
     (joined _ (nat_le 1 (length p.rows))
     (joined _ (nat_le 1 p.unit)
     (joined _ (nat_le p.format 2)
     (joined _ (nat_le 1 p.format)
-    (joined (nat_le 1 p.generation) (nat_le p.generation 4294967294) (le-leb _ _ h.some_generation) (le-leb _ _ h.last_generation))
+    (joined (nat_le 1 p.generation) (nat_le p.generation LAST_NUMBER) (le-leb _ _ h.some_generation) (le-leb _ _ h.last_generation))
     (le-leb _ _ h.some_format))
     (le-leb _ _ h.last_format))
     (le-leb _ _ h.some_unit))

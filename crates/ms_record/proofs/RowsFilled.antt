@@ -4,7 +4,7 @@ use Rattle.std.proofs.Math.ListN.{set}
 use Rattle.std.proofs.lemmas.List.{take_more_set, take_all, length-set}
 use Rattle.ms_base.specs.Options.{◌>>=◌}
 use Rattle.ms_record.specs.declared.plan.PlanRow.{PlanRow}
-use Rattle.ms_record.specs.Fields.{Field}
+use Rattle.ms_base.specs.Fields.{Field}
 use Rattle.ms_record.specs.Reading.{row_at, rows_at}
 
 -- the rows before, and those that are still read

@@ -2,13 +2,14 @@
 use Rattle.std.specs.Prelude.{◌≡◌, ℕ, ◌^◌, ◌<◌, List, [], ◌∷◌, ◌++◌, length, Option, Some, None, IfSome}
 use Rattle.std.specs.Int.{w32, to_be_bytes}
 use Rattle.sha2.specs.Sha256.{sha256}
+use Rattle.ms_base.specs.declared.limits.TheConstants.{CLIENTS}
 use Rattle.ms_record.specs.declared.entry.Entry.{Entry}
 use Rattle.ms_record.specs.Plans.{PlanView, IsPlan, plan_text}
 
 -- the numbers are in their ranges, names have 32 bytes, and the plan, where there is one, keeps its rules
 pub record IsEntry (e : Entry) : Type 0 where
   pub before : length e.before.0 ≡ 32
-  pub client : e.client.0 < 16
+  pub client : e.client.0 < CLIENTS
   pub number : e.number < 2 ^ 32
   pub version : length e.version.0 ≡ 32
   pub plan : IfSome e.plan IsPlan

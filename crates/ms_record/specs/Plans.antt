@@ -2,6 +2,7 @@
 use Rattle.std.specs.Prelude.{◌≡◌, ℕ, ◌+◌, ◌/◌, ◌^◌, ◌<◌, ◌≤◌, List, [], ◌++◌, length, Some, slice_get}
 use Rattle.std.specs.Int.{w32, w64, to_be_bytes}
 use Rattle.std.specs.List.{flat_map}
+use Rattle.ms_base.specs.declared.limits.TheConstants.{COPIES, LAST_NUMBER, SERVICES}
 use Rattle.ms_record.specs.declared.plan.PlanRow.{PlanRow}
 
 -- a plan, without where it lies in memory
@@ -19,23 +20,23 @@ plan_of generation format replicas unit rows = record { generation = generation;
 abbrev pub no_plan : PlanView
 no_plan = plan_of 0 0 0 0 []
 
--- a service of the workspace, with 1 to 16 copies
+-- a service of the workspace, with a copy at least and not too many
 pub record IsRow (unit : ℕ) (row : PlanRow) : Type 0 where
-  pub service : row.service.0 < 16
+  pub service : row.service.0 < SERVICES
   pub capacity : row.capacity < 2 ^ 64
   pub some_copies : 1 ≤ row.capacity / unit
-  pub few_copies : row.capacity / unit ≤ 16
+  pub few_copies : row.capacity / unit ≤ COPIES
 
 -- the plan rules
 pub record IsPlan (plan : PlanView) : Type 0 where
   pub some_generation : 1 ≤ plan.generation
-  pub last_generation : plan.generation ≤ 4294967294
+  pub last_generation : plan.generation ≤ LAST_NUMBER
   pub some_format : 1 ≤ plan.format
   pub last_format : plan.format ≤ 2
   pub some_unit : 1 ≤ plan.unit
   pub unit : plan.unit < 2 ^ 64
   pub some_rows : 1 ≤ length plan.rows
-  pub few_rows : length plan.rows ≤ 16
+  pub few_rows : length plan.rows ≤ SERVICES
   pub some_replicas : 1 ≤ plan.replicas
   pub few_replicas : plan.replicas ≤ length plan.rows
   pub rows : (i : ℕ) (row : PlanRow) → slice_get plan.rows i ≡ Some row → IsRow plan.unit row

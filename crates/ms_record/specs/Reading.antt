@@ -3,12 +3,13 @@
 use Rattle.std.specs.Prelude.{ℕ, zero, suc, ◌==◌, List, [], ◌∷◌, Option, Some, None, if◌then◌else◌}
 use Rattle.std.specs.Int.{w32, w64}
 use Rattle.ms_base.specs.Options.{◌>>=◌}
+use Rattle.ms_base.specs.declared.limits.TheConstants.{LAST_NUMBER, SERVICES}
 use Rattle.ms_record.specs.declared.ballot.Ballot.{Ballot}
 use Rattle.ms_record.specs.declared.entry.Entry.{Entry}
 use Rattle.ms_record.specs.declared.plan.PlanRow.{PlanRow}
 use Rattle.ms_record.specs.declared.record.Record.{Record}
 use Rattle.ms_record.specs.declared.record.Record.TheVariants.{Prepare, Accept}
-use Rattle.ms_record.specs.Fields.{Field, byte_at, number_at, number_within, name_at, client_at, at_end}
+use Rattle.ms_base.specs.Fields.{Field, byte_at, number_at, number_within, name_at, client_at, at_end}
 use Rattle.ms_record.specs.Plans.{PlanView, plan_of}
 use Rattle.ms_record.specs.PlanTests.{plan_if}
 
@@ -33,7 +34,7 @@ plan_at text = do
   format ← number_at w32 generation.1
   replicas ← number_at w32 format.1
   unit ← number_at w64 replicas.1
-  count ← number_within 1 16 unit.1
+  count ← number_within 1 SERVICES unit.1
   rows ← rows_at count.0 count.1
   plan ← plan_if (plan_of generation.0 format.0 replicas.0 unit.0 rows.0)
   Some (plan, rows.1)
@@ -67,7 +68,7 @@ entry_at text = do
 
 unfoldable pub ballot_at : List ℕ → Field Ballot
 ballot_at text = do
-  round ← number_within 1 4294967294 text
+  round ← number_within 1 LAST_NUMBER text
   client ← client_at round.1
   Some (record { round = round.0; client = client.0 }, client.1)
 
@@ -82,7 +83,7 @@ ending_at tag position ballot text =
 unfoldable pub record_at : List ℕ → Option Record
 record_at text = do
   tag ← byte_at text
-  position ← number_within 1 4294967294 tag.1
+  position ← number_within 1 LAST_NUMBER tag.1
   ballot ← ballot_at position.1
   ending_at tag.0 position.0 ballot.0 ballot.1
 

@@ -1,22 +1,19 @@
 -- Records of vote lists: their ranges and their one spelling; which records the texts of a list are.
 use Rattle.std.specs.Prelude.{ℕ, ◌<◌, ◌≤◌, List, [], ◌∷◌, ◌++◌}
 use Rattle.std.specs.Int.{w32, to_be_bytes}
+use Rattle.ms_base.specs.declared.limits.TheConstants.{CLIENTS, LAST_NUMBER}
 use Rattle.ms_record.specs.declared.ballot.Ballot.{Ballot}
 use Rattle.ms_record.specs.declared.record.Record.{Record}
 use Rattle.ms_record.specs.declared.record.Record.TheVariants.{Prepare, Accept}
 use Rattle.ms_record.specs.Entries.{IsEntry, entry_text}
 
--- positions and rounds
-abbrev pub last_position : ℕ
-last_position = 4294967294
-
 pub record IsBallot (b : Ballot) : Type 0 where
   pub some_round : 1 ≤ b.round
-  pub last_round : b.round ≤ 4294967294
-  pub client : b.client.0 < 16
+  pub last_round : b.round ≤ LAST_NUMBER
+  pub client : b.client.0 < CLIENTS
 
 abbrev pub IsPosition : ℕ → Type 0
-IsPosition k = (1 ≤ k) × (k ≤ last_position)
+IsPosition k = (1 ≤ k) × (k ≤ LAST_NUMBER)
 
 abbrev pub IsRecord : Record → Type 0
 IsRecord (Prepare k b) = IsPosition k × IsBallot b

@@ -1,5 +1,6 @@
 -- What all clients agree on from the start.
 use Rattle.std.specs.Prelude.{◌≡◌, ℕ, ◌≤◌, Some, map}
+use Rattle.ms_base.specs.declared.limits.TheConstants.{CLIENTS, SERVICES}
 use Rattle.ms_record.specs.declared.plan.PlanRow.{PlanRow}
 use Rattle.ms_record.specs.declared.setting.Setting.{Setting}
 use Rattle.ms_record.specs.Chains.{Origin, plan_after, voters_of}
@@ -24,9 +25,9 @@ even_plan services replicas = plan_of 1 1 replicas 1 (map even_row (services_bel
 -- the numbers are in their ranges, and the genesis is a plan entry over all services
 pub record IsSetting (setting : Setting) : Type 0 where
   pub some_services : 1 ≤ setting.services
-  pub few_services : setting.services ≤ 16
+  pub few_services : setting.services ≤ SERVICES
   pub some_clients : 1 ≤ setting.clients
-  pub few_clients : setting.clients ≤ 16
+  pub few_clients : setting.clients ≤ CLIENTS
   pub genesis : IsEntry setting.genesis
   pub plan : PlanView
   pub plan_is : setting.genesis.plan ≡ Some plan

@@ -6,13 +6,14 @@ ghost use Rattle.std.specs.List.{flat_map};
 ghost use Rattle.ms_record.specs.declared.entry.Entry.{Entry};
 ghost use Rattle.ms_record.specs.Chains.{GoesOn, LinksOn};
 ghost use Rattle.ms_record.specs.Entries.{IsEntry, entry_text, name_of};
-ghost use Rattle.ms_record.specs.Fields.{IsBytes};
+ghost use Rattle.ms_base.specs.Fields.{IsBytes};
 ghost use Rattle.ms_record.specs.Plans.{plan_text, row_text};
 ghost use Rattle.ms_record.specs.Reading.{entry_at};
 ghost use Rattle.sha2.specs.Hashers.{Holds256};
 
 use crate::plan::{LAST_FORMAT, Plan, PlanRow};
 use crate::reading::read_entry;
+use ms_base::fields::{fields_are_spelled, spelled_fields_are_read};
 use ms_base::{ClientId, Items, Name};
 use sha2::{Digest, Sha256};
 
@@ -49,6 +50,8 @@ pub fn parse_entry(text: &[u8]) -> Option<Entry>
     ensures only { (e : Entry) → IsEntry e → text.now ≡ entry_text e → result ≡ Some e }
     ensures exact { result ≡ entry_at text.now }
 {
+    fields_are_spelled();
+    spelled_fields_are_read();
     read_entry(text)
 }
 
@@ -135,4 +138,7 @@ fn goes_on(plan: &Plan, generation: u32, format: u32, services: u32) -> bool
 pub fn one_spelling()
     ensures read { (text : List ℕ) (e : Entry) → IsBytes text → entry_at text ≡ Some e → IsEntry e × (text ≡ entry_text e) }
     ensures again { (e : Entry) → IsEntry e → entry_at (entry_text e) ≡ Some e }
-{}
+{
+    fields_are_spelled();
+    spelled_fields_are_read();
+}

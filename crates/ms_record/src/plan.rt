@@ -7,6 +7,7 @@ ghost use Rattle.ms_record.specs.PlanTests.{AreCapacities, are_rows as are_rows_
 ghost use Rattle.ms_record.specs.Settings.{IsFirstPlan, even_plan};
 
 use ms_base::ServiceId;
+use ms_base::limits::{COPIES, LAST_NUMBER, SERVICES};
 use std::marker::Model;
 
 /// A service and its capacity in bytes.
@@ -44,10 +45,7 @@ impl Model for Plan {
 }
 
 /// The greatest number of rows.
-pub(crate) const MOST_ROWS: usize = 16;
-
-/// The last generation.
-const LAST_GENERATION: u32 = 4_294_967_294;
+pub(crate) const MOST_ROWS: usize = SERVICES as usize;
 
 /// The last format.
 pub(crate) const LAST_FORMAT: u32 = 2;
@@ -89,7 +87,7 @@ impl Plan {
     /// The first plan over so many services, each with a capacity of one copy.
     pub fn even(services: u32, replicas: u32) -> Plan
         requires some_services { 1 ≤ services }
-        requires few_services { services ≤ 16 }
+        requires few_services { services ≤ SERVICES }
         requires some_replicas { 1 ≤ replicas }
         requires few_replicas { replicas ≤ services }
         ensures is { result ≡ even_plan services replicas }
@@ -153,7 +151,7 @@ fn keeps_rules(generation: u32, format: u32, replicas: u32, unit: u64, rows: &[P
     ensures rules { OnTrue result (IsPlan (plan_of generation format replicas unit rows.now)) }
 {
     generation >= 1
-        && generation <= LAST_GENERATION
+        && generation <= LAST_NUMBER
         && format >= 1
         && format <= LAST_FORMAT
         && unit >= 1
@@ -184,9 +182,9 @@ fn are_rows(rows: &[PlanRow], unit: u64) -> bool
 fn is_row(row: &PlanRow, unit: u64) -> bool
     requires { 0 < unit }
     ensures test { result ≡ is_row_from unit row.now }
-    ensures service { OnTrue result (row.now.service.0 < 16) }
+    ensures service { OnTrue result (row.now.service.0 < SERVICES) }
     ensures fits { row.now.capacity < 2 ^ 64 }
 {
     let copies = row.capacity / unit;
-    row.service.0 < 16 && copies >= 1 && copies <= 16
+    row.service.0 < SERVICES && copies >= 1 && copies <= COPIES
 }

@@ -6,13 +6,11 @@ ghost use Rattle.ms_record.specs.Reading.{row_at, rows_at, plan_at, push_at, pla
 
 use crate::ballot::Ballot;
 use crate::entry::Entry;
-use crate::fields::{Field, read_client, read_name, read_u8, read_u32, read_u64, read_within};
 use crate::plan::{MOST_ROWS, NO_ROW, Plan, PlanRow};
 use crate::record::Record;
 use ms_base::ServiceId;
-
-/// The last position, and the last round.
-const LAST: u32 = 4_294_967_294;
+use ms_base::fields::{Field, read_client, read_name, read_u8, read_u32, read_u64, read_within};
+use ms_base::limits::{LAST_NUMBER, SERVICES};
 
 #[tactic(auto, unfolding(crate::specs::Reading::row_at))]
 fn read_row(text: &[u8]) -> Field<'_, PlanRow>
@@ -50,7 +48,7 @@ fn read_plan(text: &[u8]) -> Field<'_, Plan>
     let (format, rest) = read_u32(rest)?;
     let (replicas, rest) = read_u32(rest)?;
     let (unit, rest) = read_u64(rest)?;
-    let (count, rest) = read_within(1, MOST_ROWS as u32, rest)?;
+    let (count, rest) = read_within(1, SERVICES, rest)?;
     let mut all = [NO_ROW; MOST_ROWS];
     let rows = &mut all[..count as usize];
     let rest = read_rows(rows, rest)?;
@@ -120,7 +118,7 @@ pub(crate) fn read_entry(text: &[u8]) -> Option<Entry>
 fn read_ballot(text: &[u8]) -> Field<'_, Ballot>
     ensures { option_map (λ x. (x.0, x.1.now)) result ≡ ballot_at text.now }
 {
-    let (round, rest) = read_within(1, LAST, text)?;
+    let (round, rest) = read_within(1, LAST_NUMBER, text)?;
     let (client, rest) = read_client(rest)?;
     Some((Ballot { round, client }, rest))
 }
@@ -150,7 +148,7 @@ pub(crate) fn read_record(text: &[u8]) -> Option<Record>
     ensures { result ≡ record_at text.now }
 {
     let (tag, rest) = read_u8(text)?;
-    let (position, rest) = read_within(1, LAST, rest)?;
+    let (position, rest) = read_within(1, LAST_NUMBER, rest)?;
     let (ballot, rest) = read_ballot(rest)?;
     read_ending(tag, position, ballot, rest)
 }

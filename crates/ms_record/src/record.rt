@@ -2,7 +2,7 @@
 
 ghost use Rattle.std.specs.Prelude.{◌≡◌, ℕ, List, Some, IfSome};
 ghost use Rattle.ms_record.specs.declared.record.Record.{Record};
-ghost use Rattle.ms_record.specs.Fields.{IsBytes};
+ghost use Rattle.ms_base.specs.Fields.{IsBytes};
 ghost use Rattle.ms_record.specs.Records.{IsRecord, record_text};
 ghost use Rattle.ms_record.specs.Reading.{record_at};
 ghost use Rattle.ms_record.specs.Votes.{position_of, ballot_of};
@@ -10,6 +10,7 @@ ghost use Rattle.ms_record.specs.Votes.{position_of, ballot_of};
 use crate::ballot::Ballot;
 use crate::entry::Entry;
 use crate::reading::read_record;
+use ms_base::fields::{fields_are_spelled, spelled_fields_are_read};
 
 /// One record of a vote list: what a bidder asks a service, as an acceptor, to promise or to accept.
 ///
@@ -55,6 +56,8 @@ pub fn parse_record(text: &[u8]) -> Option<Record>
     ensures only { (r : Record) → IsRecord r → text.now ≡ record_text r → result ≡ Some r }
     ensures exact { result ≡ record_at text.now }
 {
+    fields_are_spelled();
+    spelled_fields_are_read();
     read_record(text)
 }
 
@@ -62,4 +65,7 @@ pub fn parse_record(text: &[u8]) -> Option<Record>
 pub fn one_spelling()
     ensures read { (text : List ℕ) (r : Record) → IsBytes text → record_at text ≡ Some r → IsRecord r × (text ≡ record_text r) }
     ensures again { (r : Record) → IsRecord r → record_at (record_text r) ≡ Some r }
-{}
+{
+    fields_are_spelled();
+    spelled_fields_are_read();
+}

@@ -7,6 +7,7 @@ ghost use Rattle.ms_record.specs.Votes.{services_below};
 
 use crate::plan::{MOST_ROWS, Plan};
 use ms_base::ServiceId;
+use ms_base::limits::SERVICES;
 use std::marker::Model;
 
 /// Some services of a workspace, at most 16. It takes no memory but its own.
@@ -51,7 +52,7 @@ impl ServiceSet {
 
     /// The first so many services.
     pub fn all(services: u32) -> ServiceSet
-        requires { services ≤ 16 }
+        requires { services ≤ SERVICES }
         ensures are { result ≡ services_below services }
         ensures many { length result ≡ services }
     {
@@ -80,7 +81,7 @@ impl ServiceSet {
     /// How many there are.
     pub fn len(&self) -> usize
         ensures count { result ≡ length self.now }
-        ensures few { result ≤ 16 }
+        ensures few { result ≤ SERVICES }
     {
         self.count
     }

@@ -1,17 +1,17 @@
 //! Writing entries and records: `docs/FORMATS.md`, plans, entries, records.
 
 ghost use Rattle.std.specs.Prelude.{◌≡◌, ◌++◌, OnOk, OnErr};
-ghost use Rattle.std.specs.Int.{w32, w64, to_be_bytes};
 ghost use Rattle.std.specs.List.{flat_map};
 ghost use Rattle.ms_record.specs.Entries.{entry_text, plan_part};
 ghost use Rattle.ms_record.specs.Plans.{plan_text, row_text};
-ghost use Rattle.ms_record.specs.Records.{head_text, record_text};
+ghost use Rattle.ms_record.specs.Records.{ballot_text, head_text, record_text};
 
 use crate::ballot::Ballot;
 use crate::entry::Entry;
 use crate::plan::{Plan, PlanRow};
 use crate::record::Record;
 use ms_base::NoMemory;
+use ms_base::fields::{push_name, push_u32, push_u64};
 
 /// Puts the bytes of an entry at the end of `out`.
 pub fn write_entry(entry: &Entry, out: &mut Vec<u8>) -> Result<(), NoMemory>
@@ -57,6 +57,12 @@ fn push_head(out: &mut Vec<u8>, tag: u8, position: u32, ballot: Ballot) -> Resul
 {
     out.push(tag)?;
     push_u32(out, position)?;
+    push_ballot(out, ballot)
+}
+
+fn push_ballot(out: &mut Vec<u8>, ballot: Ballot) -> Result<(), NoMemory>
+    ensures { OnOk result (out.new.items ≡ out.old.items ++ ballot_text ballot) }
+{
     push_u32(out, ballot.round)?;
     push_u32(out, ballot.client.0)
 }
@@ -69,10 +75,10 @@ fn push_entry(out: &mut Vec<u8>, entry: &Entry) -> Result<(), NoMemory>
         Some(_) => b'L',
     };
     out.push(tag)?;
-    out.extend_from_slice(&entry.before.0)?;
+    push_name(out, &entry.before)?;
     push_u32(out, entry.client.0)?;
     push_u32(out, entry.number)?;
-    out.extend_from_slice(&entry.version.0)?;
+    push_name(out, &entry.version)?;
     push_plan_part(out, entry)
 }
 
@@ -105,19 +111,5 @@ fn push_rows(out: &mut Vec<u8>, rows: &[PlanRow]) -> Result<(), NoMemory>
         push_u32(out, row.service.0)?;
         push_u64(out, row.capacity)?;
     }
-    Ok(())
-}
-
-fn push_u32(out: &mut Vec<u8>, number: u32) -> Result<(), NoMemory>
-    ensures { OnOk result (out.new.items ≡ out.old.items ++ to_be_bytes w32 number) }
-{
-    out.extend_from_slice(&number.to_be_bytes())?;
-    Ok(())
-}
-
-fn push_u64(out: &mut Vec<u8>, number: u64) -> Result<(), NoMemory>
-    ensures { OnOk result (out.new.items ≡ out.old.items ++ to_be_bytes w64 number) }
-{
-    out.extend_from_slice(&number.to_be_bytes())?;
     Ok(())
 }

@@ -23,7 +23,7 @@ use Rattle.ms_replay.specs.declared.voted.Voted.{Voted}
 use Rattle.ms_replay.specs.Standings.{Differs, IsGiven, IsNoLater, IsTextAtMost}
 use Rattle.ms_replay.specs.Tallies.{IsVote, vote_cmp}
 use Rattle.ms_replay.specs.Winners.{AreHere, IsGroup, has_voted, has_text, HasMajority, IsFirstWinner, IsGreatestHere}
-use Rattle.ms_replay.proofs.BallotOrder.{same_ballot}
+use Rattle.ms_record.specs.BallotOrder.{same_ballot}
 use Rattle.ms_replay.proofs.VoteOrder.{not_before}
 use Rattle.ms_replay.proofs.Places.{place_take, take_place, drop_place, any_at, at_any, bool_same, and_true, count_congr}
 

@@ -1,10 +1,8 @@
-pub mod BallotOrder
-pub mod Growing
-pub mod Feeding
 pub mod Places
 pub mod ReadingOn
 pub mod VoteOrder
 pub mod TallyOn
+pub mod LookingOn
 pub mod Groups
 pub mod Parts
 pub mod Choosing

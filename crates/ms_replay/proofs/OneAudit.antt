@@ -1,17 +1,16 @@
 -- A dump has one audit.
-use Rattle.std.proofs.Common.{◌≡◌, ℕ, ◌+◌, ◌<◌, ◌≤◌, Bool, true, false, List, Option, Some, None, inl, inr, refl, sym, ap, ◌∙◌, subst, length, arith}
+use Rattle.std.proofs.Common.{◌≡◌, ℕ, ◌≤◌, Bool, true, false, List, Some, None, inl, inr, refl, sym, ap, ◌∙◌, subst, length, arith}
 use Rattle.std.specs.Prelude.{bytes_eq}
 use Rattle.std.specs.Cmp.Lexicographic.{same_text}
 use Rattle.std.proofs.lemmas.Bool.{cases_lt}
-use Rattle.ms_base.specs.declared.names.Name.{Name}
 use Rattle.ms_record.specs.declared.entry.Entry.{Entry}
 use Rattle.ms_record.specs.declared.record.Record.{Record}
-use Rattle.ms_record.specs.Chains.{Origin, IsLinked, IsChain, IsChosen, AgreesAt, Agrees, voters_behind}
+use Rattle.ms_record.specs.Chains.{Origin, IsLinked, IsChosen, AgreesAt, voters_behind}
 use Rattle.ms_record.specs.Entries.{entry_text, name_of}
 use Rattle.ms_record.specs.Votes.{ChosenBy}
 use Rattle.ms_replay.specs.declared.audit.Audit.{Audit}
 use Rattle.ms_replay.specs.declared.audit.Audit.TheVariants as audits
-use Rattle.ms_replay.specs.Audits.{IsLeastSplit, NamesSplit, AuditsLists}
+use Rattle.ms_replay.specs.Audits.{IsLeastSplit, AuditsLists}
 use Rattle.ms_replay.specs.Standings.{IsFirstChosen}
 use Rattle.ms_replay.proofs.Groups.{bytes_same}
 use Rattle.ms_replay.proofs.OneStanding.{first_meet, no_later_meet}

@@ -7,7 +7,7 @@ use Rattle.ms_record.specs.declared.entry.Entry.{Entry}
 use Rattle.ms_record.specs.declared.record.Record.{Record}
 use Rattle.ms_record.specs.declared.record.Record.TheVariants.{Accept}
 use Rattle.ms_record.specs.Entries.{IsEntry, entry_text}
-use Rattle.ms_record.specs.Fields.{IsBytes}
+use Rattle.ms_base.specs.Fields.{IsBytes}
 use Rattle.ms_record.specs.Reading.{entry_at, record_at, votes_of, with_record}
 use Rattle.ms_record.specs.Records.{IsRecord, record_text}
 use Rattle.ms_record.specs.Votes.{IsTaken, ChosenBy}

@@ -17,11 +17,11 @@ use Rattle.ms_record.specs.Reading.{record_at, votes_of, with_record}
 use Rattle.ms_record.specs.Records.{IsRecord, IsPosition}
 use Rattle.ms_record.specs.Votes.{position_of, ballot_of, NoneAbove, IsTaken}
 use Rattle.ms_replay.specs.declared.voted.Voted.{Voted}
-use Rattle.ms_replay.specs.Acceptors.{IsTop, IsGreatestBallot}
+use Rattle.ms_record.specs.Acceptors.{IsTop, IsGreatestBallot}
 use Rattle.ms_replay.specs.Tallies.{HasVote, AreKnown, IsReadOf, AddsVotes, top_at}
-use Rattle.ms_replay.proofs.BallotOrder.{below_at_most}
-use Rattle.ms_replay.proofs.Growing.{same_back, taken_same}
-use Rattle.ms_replay.proofs.Feeding.{push_cases, same_pushed, top_keeps, top_takes, none_above_top, none_above_taken, outbid_not_taken, taken_next}
+use Rattle.ms_record.specs.BallotOrder.{below_at_most}
+use Rattle.ms_record.specs.Growing.{same_back, taken_same}
+use Rattle.ms_record.specs.Pushing.{push_cases, same_pushed, top_keeps, top_takes, none_above_top, none_above_taken, outbid_not_taken, taken_next}
 use Rattle.ms_replay.proofs.Places.{place_left, place_right, place_cases, alone}
 
 -- what is taken in the longer list was taken before, or is the new record

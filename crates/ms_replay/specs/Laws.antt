@@ -1,7 +1,7 @@
 -- What the laws of this crate take as given.
 use Rattle.std.specs.Prelude.{◌≡◌, ℕ, List, Some, Contains, slice_get}
 use Rattle.ms_record.specs.declared.record.Record.{Record}
-use Rattle.ms_record.specs.Fields.{IsBytes}
+use Rattle.ms_base.specs.Fields.{IsBytes}
 use Rattle.ms_record.specs.Records.{IsRecord}
 
 -- the numbers of each record are in their ranges

@@ -1,7 +1,6 @@
 pub use Rattle.ms_base.specs.Outside
 pub mod Dumps
 pub mod DumpLines
-pub mod Acceptors
 pub mod Tallies
 pub mod TallyInside
 pub mod Standings
@@ -9,3 +8,4 @@ pub mod Winners
 pub mod Audits
 pub mod Steps
 pub mod Laws
+pub mod Looks

@@ -14,7 +14,7 @@ use Rattle.ms_record.specs.Reading.{record_at}
 use Rattle.ms_record.specs.Records.{IsPosition, record_text}
 use Rattle.ms_record.specs.Votes.{position_of, IsTaken}
 use Rattle.ms_replay.specs.declared.voted.Voted.{Voted}
-use Rattle.ms_replay.specs.Acceptors.{IsTop}
+use Rattle.ms_record.specs.Acceptors.{IsTop}
 
 -- how many services there are, the greatest ballots of each by their positions, and the votes that were taken
 pub record TallyView : Type 0 where

@@ -1,9 +1,9 @@
 //! Tallies of lists whose standings were known before.
 
 use crate::test_texts::*;
-use crate::{Acceptor, Standing, Tally, Verdict};
+use crate::{Standing, Tally};
 use ms_base::{Bytes, ClientId, Items, ServiceId};
-use ms_record::{Ballot, Entry, Record, ServiceSet, Vote};
+use ms_record::{Ballot, Entry, ServiceSet, Vote};
 use std::alloc::Global;
 use std::test::*;
 
@@ -18,55 +18,11 @@ fn accepts_of(alloc: Global, entries: &[&str]) -> Option<Items<Bytes>> {
     Some(list)
 }
 
-fn accept_of(entry: &Entry, ballot: Ballot) -> Record {
-    Record::Accept {
-        position: 1,
-        ballot,
-        entry: *entry,
-    }
-}
-
 fn vote_of(entry: &Entry, ballot: Ballot) -> Vote {
     Vote {
         ballot,
         entry: *entry,
     }
-}
-
-#[test]
-fn an_acceptor_says_what_counts(rt: HostRuntime) -> Result<(), Fail> {
-    let x = entry_of(rt.alloc(), X).ok_or("no entry")?;
-    let low = Ballot {
-        round: 1,
-        client: ClientId(0),
-    };
-    let high = Ballot {
-        round: 1,
-        client: ClientId(1),
-    };
-    let elsewhere = Record::Prepare {
-        position: 2,
-        ballot: high,
-    };
-    let first = Record::Prepare {
-        position: 1,
-        ballot: low,
-    };
-    let second = Record::Prepare {
-        position: 1,
-        ballot: high,
-    };
-    let mut acceptor = Acceptor::at(1);
-    assert_eq!(rt; acceptor.feed(&elsewhere), Verdict::Elsewhere);
-    assert_eq!(rt; acceptor.feed(&first), Verdict::Promised { best: None });
-    assert_eq!(rt; acceptor.feed(&accept_of(&x, low)), Verdict::Taken);
-    let best = Some(vote_of(&x, low));
-    assert_eq!(rt; acceptor.feed(&second), Verdict::Promised { best });
-    assert_eq!(rt;
-        acceptor.feed(&accept_of(&x, low)),
-        Verdict::Outbid { top: high }
-    );
-    Ok(())
 }
 
 /// A tally of three services after these texts of lists 0, 1 and 2.

@@ -1,18 +1,17 @@
 //! Votes that were taken, as they are read from the lists of the services.
 
-ghost use Rattle.std.specs.Prelude.{◌≡◌, ℕ, List, ◌++◌, ◌∷◌, [], Some, IfOk, OnOk, OnErr, IsTrue, ◌↔◌, true, false, length, IfSome};
+ghost use Rattle.std.specs.Prelude.{◌≡◌, ℕ, List, ◌++◌, ◌∷◌, [], Some, IfOk, OnOk, OnErr, IsTrue, ◌↔◌, length, IfSome};
 ghost use Rattle.std.specs.List.Sorted.{IsPermutation};
 ghost use Rattle.ms_record.specs.declared.ballot.Ballot.{Ballot};
 ghost use Rattle.ms_record.specs.declared.entry.Entry.{Entry};
 ghost use Rattle.ms_record.specs.declared.record.Record.{Record};
 ghost use Rattle.ms_record.specs.declared.record.Record.TheVariants as records;
-ghost use Rattle.ms_record.specs.Ballots.{IsBelow, IsAtMost};
 ghost use Rattle.ms_record.specs.Reading.{record_at, votes_of, with_record};
 ghost use Rattle.ms_record.specs.Records.{IsRecord, record_text};
 ghost use Rattle.ms_replay.specs.Tallies.{vote_cmp, IsReadOf, AddsVotes, AreSorted, IsVote};
 
 use ms_base::{Bytes, NoMemory};
-use ms_record::{Ballot, Entry, Record, Vote, parse_record};
+use ms_record::{Ballot, Entry, Record, Vote, is_outbid, parse_record};
 use std::alloc::Global;
 use std::cmp::Ordering;
 use std::collections::BTreeMap;
@@ -66,17 +65,6 @@ impl Voted {
             ballot: self.ballot,
             entry: self.entry(),
         }
-    }
-}
-
-/// Whether the ballot is below the greatest one so far.
-fn is_outbid(ballot: Ballot, top: Option<Ballot>) -> bool
-    ensures yes { result ≡ true → (t : Ballot) × (top ≡ Some t) × IsBelow ballot t }
-    ensures no { result ≡ false → (t : Ballot) → top ≡ Some t → IsAtMost t ballot }
-{
-    match top {
-        Some(top) => ballot.is_below(top),
-        None => false,
     }
 }
 

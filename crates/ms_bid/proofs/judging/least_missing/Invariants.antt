@@ -1,4 +1,4 @@
-use Rattle.std.proofs.Common.{◌≡◌, ℕ, ◌<◌, true, false}
+use Rattle.std.proofs.Common.{ℕ, ◌<◌}
 use Rattle.ms_bid.specs.Ends.{IsMissing}
 use Rattle.ms_bid.proofs.judging.least_missing.Given as goal
 

@@ -1,4 +1,4 @@
-use Rattle.std.proofs.Common.{◌≡◌, ◌+◌, ◌<◌, Bool, List, Option, length, subst, sym, arith}
+use Rattle.std.proofs.Common.{◌+◌, ◌<◌, Bool, List, length, subst, sym, arith}
 use Rattle.ms_bid.specs.Ends.{AllSent, AllSeen}
 use Rattle.ms_bid.proofs.Noting.{sent_failed, seen_failed}
 use Rattle.ms_bid.proofs.bid.Bid.note_failed.Goals as goal

@@ -1,4 +1,4 @@
-use Rattle.std.proofs.Common.{◌≡◌, ◌+◌, ◌<◌, Bool, List, length, subst, sym, arith}
+use Rattle.std.proofs.Common.{◌+◌, ◌<◌, Bool, List, length, subst, sym, arith}
 use Rattle.ms_bid.specs.Ends.{AllSent}
 use Rattle.ms_bid.proofs.Noting.{sent_more}
 use Rattle.ms_bid.proofs.bid.Bid.note_sent.Goals as goal

@@ -1,5 +1,5 @@
-use Rattle.std.proofs.Common.{◌≡◌, ◌+◌, ◌<◌, List, Option, length, subst, sym, arith}
-use Rattle.ms_bid.specs.declared.sight.Sight.{Sight}
+use Rattle.std.proofs.Common.{◌+◌, ◌<◌, List, Option, length, subst, sym, arith}
+use Rattle.ms_record.specs.declared.sight.Sight.{Sight}
 use Rattle.ms_bid.specs.Ends.{AllSeen}
 use Rattle.ms_bid.specs.Bids.{IsFramed, seen_of}
 use Rattle.ms_bid.proofs.Noting.{looks_first, looks_second, framed_first, framed_second}

@@ -5,9 +5,9 @@ use Rattle.ms_record.specs.declared.entry.Entry.{Entry}
 use Rattle.ms_record.specs.declared.record.Record.{Record}
 use Rattle.ms_record.specs.Ballots.{IsBelow}
 use Rattle.ms_record.specs.Votes.{position_of, ballot_of, NoneAbove, IsPromised, IsTaken, IsBest}
-use Rattle.ms_replay.specs.declared.acceptor.Acceptor.{Acceptor}
-use Rattle.ms_replay.specs.declared.acceptor.Verdict.{Verdict}
-use Rattle.ms_replay.specs.declared.acceptor.Verdict.TheVariants.{Promised, Taken, Outbid, Elsewhere}
+use Rattle.ms_record.specs.declared.acceptor.Acceptor.{Acceptor}
+use Rattle.ms_record.specs.declared.acceptor.Verdict.{Verdict}
+use Rattle.ms_record.specs.declared.acceptor.Verdict.TheVariants.{Promised, Taken, Outbid, Elsewhere}
 
 -- a record of this position has this ballot, and none has a greater one
 pub record IsGreatestBallot (records : List Record) (position : ℕ) (ballot : Ballot) : Type 0 where

@@ -1,19 +1,18 @@
--- The acceptor goes on by one record.
-use Rattle.std.proofs.Common.{◌≡◌, ◌≢◌, ℕ, ◌<◌, List, [], ◌∷◌, ◌++◌, Option, Some, None, ◌⊎◌, inl, inr, refl, sym, ap, ◌∙◌, subst, slice_get, length, arith}
+-- What one record more changes of what a list of records shows.
+use Rattle.std.proofs.Common.{◌≡◌, ℕ, ◌<◌, List, [], ◌∷◌, ◌++◌, Option, Some, None, ◌⊎◌, inl, inr, refl, sym, ap, ◌∙◌, subst, slice_get, length, arith}
 use Rattle.std.proofs.lemmas.List.{length_push}
 use Rattle.std.proofs.lemmas.Bool.{cases_lt}
 use Rattle.std.proofs.lemmas.Option.{slice_get_within}
 use Rattle.ms_record.specs.declared.ballot.Ballot.{Ballot}
-use Rattle.ms_record.specs.declared.entry.Entry.{Entry}
 use Rattle.ms_record.specs.declared.ballot.Vote.{Vote}
+use Rattle.ms_record.specs.declared.entry.Entry.{Entry}
 use Rattle.ms_record.specs.declared.record.Record.{Record}
 use Rattle.ms_record.specs.declared.record.Record.TheVariants.{Prepare, Accept}
-use Rattle.ms_replay.specs.declared.acceptor.Acceptor.{Acceptor}
-use Rattle.ms_record.specs.Votes.{position_of, ballot_of, NoneAbove, IsTaken, IsPromised, IsBest}
+use Rattle.ms_record.specs.Acceptors.{IsGreatestBallot, IsTop}
 use Rattle.ms_record.specs.Ballots.{IsBelow, IsAtMost}
-use Rattle.ms_replay.specs.Acceptors.{IsGreatestBallot, IsTop, IsAcceptorOf, PromisesNext, TakesNext}
-use Rattle.ms_replay.proofs.BallotOrder.{at_most_trans, not_above, below_at_most}
-use Rattle.ms_replay.proofs.Growing.{SameBelow, same_grown, same_back, taken_same, none_above_same}
+use Rattle.ms_record.specs.BallotOrder.{at_most_trans, not_above}
+use Rattle.ms_record.specs.Growing.{SameBelow, same_grown, same_back, taken_same, none_above_same}
+use Rattle.ms_record.specs.Votes.{position_of, ballot_of, NoneAbove, IsTaken, IsPromised, IsBest}
 
 pub slice_get-pushed : (xs : List Record) (r : Record) → slice_get (xs ++ r ∷ []) (length xs) ≡ Some r
 slice_get-pushed [] r = refl
@@ -44,7 +43,7 @@ none_above_push xs r k b h here i m l g e =
     ]
 
 -- the Best stays, where the new record is not taken
-best_keeps : (xs : List Record) (r : Record) (k : ℕ) (best : Option Vote) → ((b : Ballot) (e : Entry) → IsTaken (xs ++ r ∷ []) (length xs) k b e → ⊥)
+pub best_keeps : (xs : List Record) (r : Record) (k : ℕ) (best : Option Vote) → ((b : Ballot) (e : Entry) → IsTaken (xs ++ r ∷ []) (length xs) k b e → ⊥)
     → IsBest xs k (length xs) best → IsBest (xs ++ r ∷ []) k (length (xs ++ r ∷ [])) best
 best_keeps xs r k None free h = λ i b e l t.
     elim (push_cases xs r i (Accept k b e) t.stands) [
@@ -68,7 +67,7 @@ best_keeps xs r k (Some v) free h =
     }
 
 -- what is taken at the end is the Best
-best_takes : (xs : List Record) (k : ℕ) (b : Ballot) (e : Entry) (v : Vote) → v ≡ record { ballot = b; entry = e } → NoneAbove xs (length xs) k b
+pub best_takes : (xs : List Record) (k : ℕ) (b : Ballot) (e : Entry) (v : Vote) → v ≡ record { ballot = b; entry = e } → NoneAbove xs (length xs) k b
     → IsBest (xs ++ Accept k b e ∷ []) k (length (xs ++ Accept k b e ∷ [])) (Some v)
 best_takes xs k b e v is h =
     let r = Accept k b e in
@@ -119,13 +118,6 @@ pub none_above_top : (xs : List Record) (k : ℕ) (top : Option Ballot) (b : Bal
 none_above_top xs k None b h up = λ i m l g e. absurd (h i m g e)
 none_above_top xs k (Some t) b h up = λ i m l g e. at_most_trans (ballot_of m) t b (h.greatest i m l g e) (up t refl)
 
--- a record of another position changes nothing
-pub fed_elsewhere : (xs : List Record) (r : Record) (a : Acceptor) → position_of r ≢ a.position → IsAcceptorOf xs a → IsAcceptorOf (xs ++ r ∷ []) a
-fed_elsewhere xs r a other h = record {
-  top_is = top_keeps xs r a.position a.top (λ e. absurd (other e)) h.top_is;
-  best_is = best_keeps xs r a.position a.best (λ b e t. other (let q : Some r ≡ Some (Accept a.position b e) = sym (slice_get-pushed xs r) ∙ t.stands in let w : r ≡ Accept a.position b e = cc in ap position_of w)) h.best_is;
-}
-
 -- what is below a ballot of the list is not the greatest
 not_counted : (xs : List Record) (r : Record) (k : ℕ) (t : Ballot) → IsGreatestBallot xs k t → IsBelow (ballot_of r) t → NoneAbove xs (length xs) k (ballot_of r) → ⊥
 not_counted xs r k t g low n =
@@ -144,17 +136,17 @@ outbid_not_taken xs r k t g low b e u =
     let w = none_above_taken xs r k b e u in
     not_counted xs r k t g low (subst (λ (c : Ballot). NoneAbove xs (length xs) k c) (sym (ap ballot_of w.0)) w.1)
 
--- a record below the greatest ballot changes nothing
-pub fed_outbid : (xs : List Record) (r : Record) (a : Acceptor) (t : Ballot) → a.top ≡ Some t → IsBelow (ballot_of r) t → IsAcceptorOf xs a
-    → IsAcceptorOf (xs ++ r ∷ []) a × IsGreatestBallot xs a.position t
-fed_outbid xs r a t is low h =
-    let g : IsTop xs a.position (Some t) = subst (λ (o : Option Ballot). IsTop xs a.position o) is h.top_is in (
-      record {
-        top_is = top_keeps xs r a.position a.top (λ e. (t, is, below_at_most (ballot_of r) t low)) h.top_is;
-        best_is = best_keeps xs r a.position a.best (outbid_not_taken xs r a.position t g low) h.best_is;
-      },
-      g,
-    )
+-- the new record is promised only where no record before it is above it
+pub none_above_promised : (xs : List Record) (r : Record) (k : ℕ) (b : Ballot) → IsPromised (xs ++ r ∷ []) (length xs) k b → (r ≡ Prepare k b) × NoneAbove xs (length xs) k b
+none_above_promised xs r k b u =
+    let q : Some r ≡ Some (Prepare k b) = sym (slice_get-pushed xs r) ∙ u.stands in
+    (cc, none_above_same (xs ++ r ∷ []) xs (length xs) (same_back xs (xs ++ r ∷ []) (length xs) (same_pushed xs r)) (length xs) k b (omega arith) u.none_above)
+
+-- a record below the greatest ballot is not promised
+pub outbid_not_promised : (xs : List Record) (r : Record) (k : ℕ) (t : Ballot) → IsGreatestBallot xs k t → IsBelow (ballot_of r) t → (b : Ballot) → IsPromised (xs ++ r ∷ []) (length xs) k b → ⊥
+outbid_not_promised xs r k t g low b u =
+    let w = none_above_promised xs r k b u in
+    not_counted xs r k t g low (subst (λ (c : Ballot). NoneAbove xs (length xs) k c) (sym (ap ballot_of w.0)) w.1)
 
 -- the record of a position stands at the end of the list
 pub taken_next : (xs : List Record) (k : ℕ) (b : Ballot) (e : Entry) → NoneAbove xs (length xs) k b → IsTaken (xs ++ Accept k b e ∷ []) (length xs) k b e
@@ -163,55 +155,8 @@ taken_next xs k b e h = record {
   none_above = none_above_same xs (xs ++ Accept k b e ∷ []) (length xs) (same_pushed xs (Accept k b e)) (length xs) k b (omega arith) h;
 }
 
-promised_next : (xs : List Record) (k : ℕ) (b : Ballot) → NoneAbove xs (length xs) k b → IsPromised (xs ++ Prepare k b ∷ []) (length xs) k b
+pub promised_next : (xs : List Record) (k : ℕ) (b : Ballot) → NoneAbove xs (length xs) k b → IsPromised (xs ++ Prepare k b ∷ []) (length xs) k b
 promised_next xs k b h = record {
   stands = slice_get-pushed xs (Prepare k b);
   none_above = none_above_same xs (xs ++ Prepare k b ∷ []) (length xs) (same_pushed xs (Prepare k b)) (length xs) k b (omega arith) h;
 }
-
--- the acceptor after a promised Prepare
-pub fed_prepare : (xs : List Record) (a : Acceptor) (b : Ballot) → ((t : Ballot) → a.top ≡ Some t → IsAtMost t b) → IsAcceptorOf xs a
-    → IsAcceptorOf (xs ++ Prepare a.position b ∷ []) (record { position = a.position; top = Some b; best = a.best }) × PromisesNext xs (Prepare a.position b) a.position
-fed_prepare xs a b up h =
-    let none = none_above_top xs a.position a.top b h.top_is up in (
-      record {
-        top_is = top_takes xs (Prepare a.position b) a.position b refl refl none;
-        best_is = best_keeps xs (Prepare a.position b) a.position a.best (λ c e u. let w = (none_above_taken xs (Prepare a.position b) a.position c e u).0 in cc) h.best_is;
-      },
-      record { ballot = b; promised = promised_next xs a.position b none },
-    )
-
--- the acceptor after a taken Accept
-pub fed_accept : (xs : List Record) (a : Acceptor) (b : Ballot) (e : Entry) → ((t : Ballot) → a.top ≡ Some t → IsAtMost t b) → IsAcceptorOf xs a
-    → IsAcceptorOf (xs ++ Accept a.position b e ∷ []) (record { position = a.position; top = Some b; best = Some record { ballot = b; entry = e } }) × TakesNext xs (Accept a.position b e) a.position
-fed_accept xs a b e up h =
-    let none = none_above_top xs a.position a.top b h.top_is up in (
-      record {
-        top_is = top_takes xs (Accept a.position b e) a.position b refl refl none;
-        best_is = best_takes xs a.position b e (record { ballot = b; entry = e }) refl none;
-      },
-      record { ballot = b; entry = e; taken = taken_next xs a.position b e none },
-    )
-
-pub prepare_is : (r : Record) (p k : ℕ) (c b : Ballot) → r ≡ Prepare p c → position_of r ≡ k → b ≡ ballot_of r → r ≡ Prepare k b
-prepare_is r p k c b is here bal =
-    let pk : p ≡ k = sym (ap position_of is) ∙ here in
-    let cb : c ≡ b = sym (bal ∙ ap ballot_of is) in
-    is ∙ ap (λ (n : ℕ). Prepare n c) pk ∙ ap (λ (x : Ballot). Prepare k x) cb
-
-pub accept_is : (r : Record) (p k : ℕ) (c b : Ballot) (e : Entry) → r ≡ Accept p c e → position_of r ≡ k → b ≡ ballot_of r → r ≡ Accept k b e
-accept_is r p k c b e is here bal =
-    let pk : p ≡ k = sym (ap position_of is) ∙ here in
-    let cb : c ≡ b = sym (bal ∙ ap ballot_of is) in
-    is ∙ ap (λ (n : ℕ). Accept n c e) pk ∙ ap (λ (x : Ballot). Accept k x e) cb
-
--- the same, of a record that is known to be such a Prepare, and to be such an Accept
-pub goes_on_prepare : (xs : List Record) (r : Record) (a : Acceptor) (b : Ballot) → r ≡ Prepare a.position b → ((t : Ballot) → a.top ≡ Some t → IsAtMost t b) → IsAcceptorOf xs a
-    → IsAcceptorOf (xs ++ r ∷ []) (record { position = a.position; top = Some b; best = a.best }) × PromisesNext xs r a.position
-goes_on_prepare xs r a b is up h =
-    subst (λ (m : Record). IsAcceptorOf (xs ++ m ∷ []) (record { position = a.position; top = Some b; best = a.best }) × PromisesNext xs m a.position) (sym is) (fed_prepare xs a b up h)
-
-pub goes_on_accept : (xs : List Record) (r : Record) (a : Acceptor) (b : Ballot) (e : Entry) → r ≡ Accept a.position b e → ((t : Ballot) → a.top ≡ Some t → IsAtMost t b) → IsAcceptorOf xs a
-    → IsAcceptorOf (xs ++ r ∷ []) (record { position = a.position; top = Some b; best = Some record { ballot = b; entry = e } }) × TakesNext xs r a.position
-goes_on_accept xs r a b e is up h =
-    subst (λ (m : Record). IsAcceptorOf (xs ++ m ∷ []) (record { position = a.position; top = Some b; best = Some record { ballot = b; entry = e } }) × TakesNext xs m a.position) (sym is) (fed_accept xs a b e up h)

@@ -1,12 +1,13 @@
 //! The acceptor rule of one position.
 
-ghost use Rattle.std.specs.Prelude.{◌≡◌, ℕ, List, [], ◌∷◌, ◌++◌, Some, IfSome, IfNone};
+ghost use Rattle.std.specs.Prelude.{◌≡◌, ℕ, List, [], ◌∷◌, ◌++◌, Some, IfSome, IfNone, true, false};
 ghost use Rattle.ms_record.specs.declared.ballot.Ballot.{Ballot};
 ghost use Rattle.ms_record.specs.declared.record.Record.{Record};
 ghost use Rattle.ms_record.specs.Ballots.{IsBelow, IsAtMost};
-ghost use Rattle.ms_replay.specs.Acceptors.{IsAcceptorOf, IsVerdict};
+ghost use Rattle.ms_record.specs.Acceptors.{IsAcceptorOf, IsVerdict};
 
-use ms_record::{Ballot, Record, Vote};
+use crate::ballot::{Ballot, Vote};
+use crate::record::Record;
 
 /// What a record counts as for the acceptor of one position.
 #[derive(Clone, Copy, Debug, PartialEq, Eq)]
@@ -74,19 +75,21 @@ impl Acceptor {
     }
 }
 
+/// Whether the ballot is below the greatest one so far.
+pub fn is_outbid(ballot: Ballot, top: Option<Ballot>) -> bool
+    ensures yes { result ≡ true → (t : Ballot) × (top ≡ Some t) × IsBelow ballot t }
+    ensures no { result ≡ false → (t : Ballot) → top ≡ Some t → IsAtMost t ballot }
+{
+    match top {
+        Some(top) => ballot.is_below(top),
+        None => false,
+    }
+}
+
 /// The greatest ballot so far, where this one is below it.
 fn obstacle(ballot: Ballot, top: Option<Ballot>) -> Option<Ballot>
     ensures some { IfSome result (λ t. (top ≡ Some t) × IsBelow ballot t) }
     ensures none { IfNone result ((t : Ballot) → top ≡ Some t → IsAtMost t ballot) }
 {
-    match top {
-        Some(top) => {
-            if ballot.is_below(top) {
-                Some(top)
-            } else {
-                None
-            }
-        }
-        None => None,
-    }
+    if is_outbid(ballot, top) { top } else { None }
 }

@@ -1,8 +1,8 @@
 use Rattle.std.proofs.Common.{sym, ◌∙◌, subst}
 use Rattle.ms_record.specs.declared.ballot.Ballot.{Ballot}
 use Rattle.ms_record.specs.Ballots.{IsBelow}
-use Rattle.ms_replay.proofs.Feeding.{fed_elsewhere, fed_outbid, goes_on_prepare, goes_on_accept, prepare_is, accept_is}
-use Rattle.ms_replay.proofs.acceptor.Acceptor.feed.Goals as goal
+use Rattle.ms_record.proofs.AcceptorLaws.{fed_elsewhere, fed_outbid, goes_on_prepare, goes_on_accept, prepare_is, accept_is}
+use Rattle.ms_record.proofs.acceptor.Acceptor.feed.Goals as goal
 
 pub returns-then-position-self-clause-goes_on : goal.returns-then-position-self-clause-goes_on
 returns-then-position-self-clause-goes_on c =

@@ -1,4 +1,4 @@
--- The order of ballots.
+-- Laws of the order of ballots.
 use Rattle.std.proofs.Common.{◌≡◌, ◌⊎◌, inl, inr, sym, arith}
 use Rattle.std.proofs.lemmas.Bool.{cases_lt}
 use Rattle.ms_record.specs.declared.ballot.Ballot.{Ballot}
