@@ -1,11 +1,13 @@
 -- The line that is named is the first wrong one.
-use Rattle.std.proofs.Common.{◌≡◌, ℕ, zero, suc, ◌+◌, Bool, true, false, cond, List, [], ◌∷◌, ◌++◌, ◌⊎◌, inl, inr, refl, sym, ap, ◌∙◌, subst, length, slice_get, nat_lt, IsSome, Option, Some, None, Result, Ok, Err, arith}
+use Rattle.std.proofs.Common.{◌≡◌, ◌≢◌, ℕ, zero, suc, ◌+◌, ◌≤◌, Bool, true, false, cond, List, [], ◌∷◌, ◌++◌, ◌⊎◌, inl, inr, refl, sym, ap, ◌∙◌, subst, length, slice_get, nat_lt, IsSome, Option, Some, None, Result, Ok, Err, arith}
 use Rattle.std.specs.Option.{option_map}
+use Rattle.std.proofs.lemmas.Bool.{le-ltb}
 use Rattle.ms_world.specs.declared.event.Event.{Event}
+use Rattle.ms_base.specs.declared.names.Quantity.{Quantity}
 use Rattle.ms_base.specs.declared.names.Quantity.TheVariants as quantities
 use Rattle.ms_drill.specs.declared.drill.Drill.{Drill}
 use Rattle.ms_drill.specs.declared.head.Head.{Head}
-use Rattle.ms_drill.specs.Drills.{event_line, whole, events_at, with_events, with_head, drill_of, setting_of, most_events, IsFirstWrongEvent, IsWrongLine}
+use Rattle.ms_drill.specs.Drills.{event_line, whole, events_at, with_events, with_head, drill_of, setting_of, most_events, IsFirstWrongEvent, IsWrongLine, ReadsDrill, ReadsEvents}
 use Rattle.ms_drill.specs.Lines.{event_at, head_at}
 use Rattle.ms_record.specs.declared.refusal.Place.TheVariants as places
 use Rattle.ms_record.specs.declared.refusal.Refusal.{Refusal}
@@ -84,3 +86,25 @@ wrong_line_is (first ∷ lines) line e = by (head_at first) refl e
     by : (o : Option Head) → head_at first ≡ o → with_head first lines o ≡ Err (refusals.BadInput places.Input line) → ((line ≡ 1) × (head_at first ≡ None)) ⊎ (IsSome (head_at first) × IsFirstWrongEvent lines line)
     by None is e = inl (sym (bad_line 1 line e), is)
     by (Some head) is e = inr (subst (λ (o : Option Head). IsSome o) (sym is) refl, few (nat_lt most_events (length lines)) head e)
+
+-- ---- behind a head
+
+-- where the head is right and the events are not too many, the events decide
+with_few : (first : List ℕ) (lines : List (List ℕ)) (head : Head) → Some head ≡ head_at first → length lines ≤ most_events → drill_of (first ∷ lines) ≡ with_events (setting_of first head) (events_at lines)
+with_few first lines head is few =
+    let off : nat_lt most_events (length lines) ≡ false = le-ltb most_events (length lines) few in
+    ap (with_head first lines) (sym is) ∙ ap (λ (b : Bool). cond b (Err (refusals.Limit quantities.Events (length lines))) (with_events (setting_of first head) (events_at lines))) off
+
+no_limit : (setting : Setting) (given : Result (List Event) ℕ) (what : Quantity) (value : ℕ) → with_events setting given ≢ Err (refusals.Limit what value)
+no_limit setting (Ok events) what value e = cc
+no_limit setting (Err line) what value e = cc
+
+pub behind_head : (first : List ℕ) (lines : List (List ℕ)) (head : Head) (refusal : Refusal) → Some head ≡ head_at first → length lines ≤ most_events → ReadsEvents (events_at lines) (Err refusal)
+    → ReadsDrill (drill_of (first ∷ lines)) (Err refusal)
+behind_head first lines head (refusals.BadInput places.Input line) is few e = with_few first lines head is few ∙ ap (with_events (setting_of first head)) e
+behind_head first lines head refusals.NoMemory is few e =
+    let same = with_few first lines head is few in (
+      λ wrong. let w = with_wrong (setting_of first head) lines 1 (sym same ∙ wrong) in omega (arith, w.line_is),
+      λ what value limit. no_limit (setting_of first head) (events_at lines) what value (sym same ∙ limit),
+    )
+behind_head first lines head refusal is few e = absurd e

@@ -1,8 +1,9 @@
 -- The text of a drill: the setting of its head, and its events.
-use Rattle.std.specs.Prelude.{◌≡◌, ◌⊎◌, ℕ, ◌+◌, ◌≤◌, nat_lt, List, [], ◌∷◌, ◌++◌, length, slice_get, IsSome, Option, Some, None, Result, Ok, Err, if◌then◌else◌}
+use Rattle.std.specs.Prelude.{◌≡◌, ◌≢◌, ◌⊎◌, ℕ, ◌+◌, ◌≤◌, nat_lt, List, [], ◌∷◌, ◌++◌, length, slice_get, IsSome, Option, Some, None, Result, Ok, Err, if◌then◌else◌}
 use Rattle.std.specs.Option.{option_map}
 use Rattle.sha2.specs.Sha256.{sha256}
 use Rattle.ms_base.specs.declared.names.Name.{Name}
+use Rattle.ms_base.specs.declared.names.Quantity.{Quantity}
 use Rattle.ms_base.specs.declared.names.Quantity.TheVariants as quantities
 use Rattle.ms_world.specs.declared.event.Event.{Event}
 use Rattle.ms_drill.specs.declared.head.Head.{Head}
@@ -61,9 +62,9 @@ drill_of (line ∷ lines) = with_head line lines (head_at line)
 abbrev pub drill_at : List ℕ → Result Drill Refusal
 drill_at text = drill_of (lines_of text)
 
--- that answer comes, or no memory
+-- that answer comes; or no memory, which hides neither a wrong head nor too many events
 abbrev pub ReadsDrill : Result Drill Refusal → Result Drill Refusal → Type 0
-ReadsDrill given (Err refusals.NoMemory) = Unit {0}
+ReadsDrill given (Err refusals.NoMemory) = (given ≢ Err (refusals.BadInput places.Input 1)) × ((what : Quantity) (value : ℕ) → given ≢ Err (refusals.Limit what value))
 ReadsDrill given result = given ≡ result
 
 -- the events, or the first wrong line; or no memory

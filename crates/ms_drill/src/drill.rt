@@ -1,7 +1,7 @@
 //! Drills: a setting, and events in their order.
 
-ghost use Rattle.std.specs.Prelude.{◌≡◌, ◌<◌, ◌-◌, ◌^◌, ℕ, All, length, Err, IfOk};
-ghost use Rattle.ms_drill.specs.Drills.{drill_at, events_at, setting_of, IsHead, IsWrongLine, ReadsDrill, ReadsEvents};
+ghost use Rattle.std.specs.Prelude.{◌≡◌, ◌≤◌, ℕ, All, length, Err, IfOk};
+ghost use Rattle.ms_drill.specs.Drills.{drill_at, events_at, most_events, setting_of, IsHead, IsWrongLine, ReadsDrill, ReadsEvents};
 ghost use Rattle.ms_record.specs.Settings.{IsSetting};
 ghost use Rattle.ms_record.specs.declared.refusal.Refusal.TheVariants as refusals;
 ghost use Rattle.ms_record.specs.declared.refusal.Place.TheVariants as places;
@@ -31,7 +31,6 @@ pub struct Drill {
 
 /// The drill that the text spells: `docs/FORMATS.md`, drill.
 pub fn read_drill(alloc: Global, text: &[u8]) -> Result<Drill, Refusal>
-    requires { length text.now < 2 ^ 32 - 2 }
     ensures exact { ReadsDrill (drill_at text.now) result }
     ensures first { (line : ℕ) → drill_at text.now ≡ Err (refusals.BadInput places.Input line) → IsWrongLine (lines_of text.now) line }
     ensures setting { IfOk result (λ d. IsSetting d.setting) }
@@ -74,7 +73,7 @@ fn count_lines(text: &[u8]) -> u64
 
 /// The events of the lines behind the head.
 fn read_events(alloc: Global, text: &[u8]) -> Result<Events, Refusal>
-    requires { length text.now < 2 ^ 32 - 2 }
+    requires { length (lines_of text.now) ≤ most_events }
     ensures read { ReadsEvents (events_at (lines_of text.now)) result }
     ensures ranges { IfOk result (λ events. All IsEvent events) }
 {

@@ -7,7 +7,7 @@ use Rattle.ms_drill.proofs.drill.read_events.Given as goal
 abbrev pub invariant-loop-rest : goal.invariant-loop-rest
 invariant-loop-rest l = record {
   same : read_lines event_line whole l.line l.events (lines_of l.rest) ≡ events_at (lines_of l.text);
-  lines : l.line + length l.rest ≤ 2 + length l.text;
+  lines : l.line + length (lines_of l.rest) ≤ 2 + length (lines_of l.text);
   ranges : All IsEvent l.events;
 }
 
