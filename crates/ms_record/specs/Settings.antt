@@ -1,6 +1,7 @@
 -- What all clients agree on from the start.
 use Rattle.std.specs.Prelude.{◌≡◌, ℕ, ◌≤◌, Some, map}
 use Rattle.ms_base.specs.declared.limits.TheConstants.{CLIENTS, SERVICES}
+use Rattle.ms_base.specs.declared.names.Name.{Name}
 use Rattle.ms_record.specs.declared.plan.PlanRow.{PlanRow}
 use Rattle.ms_record.specs.declared.setting.Setting.{Setting}
 use Rattle.ms_record.specs.Chains.{Origin, plan_after, voters_of}
@@ -32,6 +33,11 @@ pub record IsSetting (setting : Setting) : Type 0 where
   pub plan : PlanView
   pub plan_is : setting.genesis.plan ≡ Some plan
   pub first : IsFirstPlan setting.services plan
+
+-- the setting of a first plan, whose genesis names what is before it and its version
+abbrev pub first_setting : ℕ → ℕ → Name → Name → PlanView → Setting
+first_setting services clients before version plan =
+    record { services = services; clients = clients; genesis = record { before = before; client = record { 0 = 0 }; number = 0; version = version; plan = Some plan } }
 
 -- the plan of its genesis
 abbrev pub genesis_plan : Setting → PlanView

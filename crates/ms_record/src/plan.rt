@@ -1,8 +1,8 @@
 //! Plans: which services hold the objects, and how many copies of each.
 
-ghost use Rattle.std.specs.Prelude.{◌≡◌, ◌<◌, ◌≤◌, ◌^◌, Some, IfSome};
+ghost use Rattle.std.specs.Prelude.{◌≡◌, ◌<◌, ◌≤◌, ◌^◌, ℕ, Some, IfSome};
 ghost use Rattle.std.specs.Bool.{OnTrue};
-ghost use Rattle.ms_record.specs.Plans.{IsPlan, plan_of};
+ghost use Rattle.ms_record.specs.Plans.{IsPlan, PlanView, plan_of};
 ghost use Rattle.ms_record.specs.PlanTests.{AreCapacities, are_rows as are_rows_from, is_plan, is_row as is_row_from, plan_if};
 ghost use Rattle.ms_record.specs.Settings.{IsFirstPlan, even_plan};
 
@@ -143,6 +143,12 @@ impl Plan {
         &self.rows[..self.count]
     }
 }
+
+/// A law: the test of the plan rules passes what keeps them, and nothing else.
+pub fn rules_are_tested()
+    ensures passed { (plan given : PlanView) → plan.unit < 2 ^ 64 → AreCapacities plan.rows → plan_if plan ≡ Some given → (plan ≡ given) × IsPlan plan }
+    ensures passes { (plan : PlanView) → IsPlan plan → plan_if plan ≡ Some plan }
+{}
 
 /// Whether these values keep the plan rules.
 #[tactic(auto, unfolding(crate::specs::PlanTests::is_plan))]
