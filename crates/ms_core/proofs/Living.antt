@@ -59,6 +59,31 @@ rises_many setting votes c linked i (suc n) =
     let e : i + suc n ≡ i + n + 1 = omega arith in
     omega (arith, rises_many setting votes c linked i n, rises_one setting votes c linked (i + n), ap (λ (j : ℕ). generation_in (genesis_plan setting) (take j c)) e)
 
+-- nor do formats
+format_kept : (generation services : ℕ) (before : PlanView) (o : Option PlanView) → IfSome o (GoesOn generation before.format services) → before.format ≤ (plan_after before o).format
+format_kept generation services before None h = omega arith
+format_kept generation services before (Some plan) h = h.format_stays
+
+formats_one : (setting : Setting) (votes : ℕ → List Record) (c : List Entry) → IsLinked votes (origin_of setting) c → (i : ℕ)
+    → (plan_in (genesis_plan setting) (take i c)).format ≤ (plan_in (genesis_plan setting) (take (i + 1) c)).format
+formats_one setting votes c linked i =
+    let before = plan_in (genesis_plan setting) (take i c) in
+    elim (some_or_past c i) [
+      | inl h ↦ omega (
+        arith,
+        format_kept before.generation setting.services before h.0.plan (linked.links i h.0 h.1).plan,
+        ap (λ (p : PlanView). p.format) (plan_at_member setting c i h.0 h.1),
+      )
+      | inr past ↦ (let e : take (i + 1) c ≡ take i c = take_all (i + 1) c (omega (arith, past)) ∙ sym (take_all i c past) in omega (arith, ap (λ (l : List Entry). (plan_in (genesis_plan setting) l).format) e))
+    ]
+
+pub formats_many : (setting : Setting) (votes : ℕ → List Record) (c : List Entry) → IsLinked votes (origin_of setting) c → (i n : ℕ)
+    → (plan_in (genesis_plan setting) (take i c)).format ≤ (plan_in (genesis_plan setting) (take (i + n) c)).format
+formats_many setting votes c linked i zero = (let e : i + 0 ≡ i = omega arith in omega (arith, ap (λ (j : ℕ). (plan_in (genesis_plan setting) (take j c)).format) e))
+formats_many setting votes c linked i (suc n) =
+    let e : i + suc n ≡ i + n + 1 = omega arith in
+    omega (arith, formats_many setting votes c linked i n, formats_one setting votes c linked (i + n), ap (λ (j : ℕ). (plan_in (genesis_plan setting) (take j c)).format) e)
+
 -- a list that begins a linked one has no greater generation
 pub begins_lower : (setting : Setting) (votes : ℕ → List Record) (a c : List Entry) → IsLinked votes (origin_of setting) c → Begins a c
     → generation_in (genesis_plan setting) a ≤ generation_in (genesis_plan setting) c

@@ -17,7 +17,7 @@ ghost use Rattle.ms_record.specs.declared.plan.PlanRow.{PlanRow};
 ghost use Rattle.ms_record.specs.declared.record.Record.{Record};
 ghost use Rattle.ms_record.specs.declared.record.Record.TheVariants.{Accept};
 ghost use Rattle.ms_record.specs.declared.setting.Setting.{Setting};
-ghost use Rattle.ms_record.specs.Chains.{Agrees, Begins, IsChain, IsChosen, IsLinked, generation_in, voters_behind};
+ghost use Rattle.ms_record.specs.Chains.{Agrees, Begins, IsChain, IsChosen, IsLinked, generation_in, plan_in, voters_behind};
 ghost use Rattle.ms_record.specs.Offers.{IsJustified, IsOffered, JustifiedBy};
 ghost use Rattle.ms_record.specs.Plans.{PlanView};
 ghost use Rattle.ms_record.specs.Settings.{IsSetting, genesis_plan, origin_of};
@@ -111,13 +111,17 @@ pub fn linked_lists()
     one_spelling();
 }
 
-/// Of every closed view that tells a setting: no floor is above the generation in force at the chain's end.
+/// Of every closed view that tells a setting: no floor is above the generation in force at the chain's end; and neither
+/// generations nor formats fall along a linked list.
 pub fn floors_told()
     ensures floors { (view : View) (setting : Setting) (chain : List Entry) → Tells view setting → IsChain (votes_told view) (origin_of setting) chain
         → (service floor : ℕ) → Contains (log_in view service) (Drop floor) → floor ≤ generation_in (genesis_plan setting) chain }
     // Generations rise along linked lists.
     ensures rises { (votes : ℕ → List Record) (setting : Setting) (c : List Entry) → IsLinked votes (origin_of setting) c
         → (i more : ℕ) → generation_in (genesis_plan setting) (take i c) ≤ generation_in (genesis_plan setting) (take (i + more) c) }
+    // So do formats: none falls.
+    ensures formats { (votes : ℕ → List Record) (setting : Setting) (c : List Entry) → IsLinked votes (origin_of setting) c
+        → (i more : ℕ) → (plan_in (genesis_plan setting) (take i c)).format ≤ (plan_in (genesis_plan setting) (take (i + more) c)).format }
     ensures begins { (votes : ℕ → List Record) (setting : Setting) (a c : List Entry) → IsLinked votes (origin_of setting) c → Begins a c
         → generation_in (genesis_plan setting) a ≤ generation_in (genesis_plan setting) c }
 {

@@ -1,5 +1,5 @@
 use Rattle.ms_core.proofs.Laws.{Laws}
-use Rattle.ms_core.proofs.Living.{begins_lower, floor_low, rises_many}
+use Rattle.ms_core.proofs.Living.{begins_lower, floor_low, formats_many, rises_many}
 use Rattle.ms_core.proofs.Telling.{tells}
 use Rattle.ms_core.proofs.Viewing.{view_backed, view_begins}
 use Rattle.ms_core.specs.Views.{log_in}
@@ -27,3 +27,6 @@ returns-clause-rises c = λ votes setting a linked i more. rises_many setting vo
 
 pub returns-clause-begins : goal.returns-clause-begins
 returns-clause-begins c = λ votes setting a b linked begins. begins_lower setting votes a b linked begins
+
+pub returns-clause-formats : goal.returns-clause-formats
+returns-clause-formats c = λ votes setting a linked i more. formats_many setting votes a linked i more
