@@ -1,7 +1,6 @@
 -- What is done at a desk leaves it a desk.
-use Rattle.std.proofs.Common.{◌≡◌, ◌≢◌, ℕ, zero, suc, ◌≤◌, ◌<◌, ◌+◌, Bool, true, List, [], ◌∷◌, ◌++◌, length, Option, Some, None, Result, Ok, Err, refl, sym, ap, ◌∙◌, subst, ◌⊎◌, inl, inr, arith, Contains, slice_get, slice_set, slice_index_or}
+use Rattle.std.proofs.Common.{◌≡◌, ◌≢◌, ℕ, zero, suc, ◌≤◌, true, List, [], ◌∷◌, ◌++◌, Option, Some, None, Result, Ok, Err, refl, sym, ap, ◌∙◌, subst, ◌⊎◌, inl, inr, arith, Contains, slice_get, slice_set, slice_index_or}
 use Rattle.std.specs.Prelude.{IfSome}
-use Rattle.std.specs.List.{filter_map}
 use Rattle.std.specs.Option.{option_map}
 use mathlib.Core.List.{IsPrefix}
 use Rattle.std.proofs.lemmas.List.Elements.{Contains-append_cases, filter_map-append}
@@ -11,21 +10,19 @@ use Rattle.ms_base.specs.declared.outside.OutsideError.TheVariants as errors
 use Rattle.ms_core.specs.Views.{configuration, offers_told, owner_of_client}
 use Rattle.ms_ken.specs.Known.{TableId, Known}
 use Rattle.ms_ken.specs.Lists.{list_at, with_item, with_told}
-use Rattle.ms_link.specs.Links.{AllLead, IsOnBoard, Leads, Learns, LinkView, Stays}
+use Rattle.ms_link.specs.Links.{IsOnBoard, Learns, LinkView}
 use Rattle.ms_record.specs.declared.item.Item.{Item}
 use Rattle.ms_record.specs.declared.item.Item.TheVariants.{Offer, Told}
 use Rattle.ms_record.specs.declared.record.Record.{Record}
-use Rattle.ms_record.specs.declared.setting.Setting.{Setting}
 use Rattle.ms_record.specs.Items.{offer_in, offers_of_items}
 use Rattle.ms_record.specs.Votes.{ballot_of}
 use Rattle.ms_local.specs.declared.deed.Deed.{Deed}
 use Rattle.ms_local.specs.declared.kept.Kept.{Kept}
 use Rattle.ms_local.specs.declared.kept.Key.{Key}
 use Rattle.ms_local.specs.declared.kept.Key.TheVariants.{State, Object}
-use Rattle.ms_local.specs.Desks.{AreWithin, DeskView, HasKeptRound, IsDesk, IsLane, IsTelling, KnowsTold, LanesStay, LinksStay, MayKeepRound, TellLists, round_of, with_deed}
-use Rattle.ms_local.specs.Keeping.{HasState, MayHaveState, WritesKept, state_of, state_in}
-use Rattle.ms_local.specs.Outside.{IsKept, KeeperView, KeptTexts, MayBeKept, WhereTold, WorkView, Writes}
-use Rattle.ms_local.specs.States.{kept_at}
+use Rattle.ms_local.specs.Desks.{AreWithin, DeskView, HasKeptRound, IsDesk, IsLane, LanesStay, LinksStay, MayKeepRound, TellLists, round_of, with_deed}
+use Rattle.ms_local.specs.Keeping.{MayHaveState, WritesKept, state_of}
+use Rattle.ms_local.specs.Outside.{KeeperView, KeptTexts, MayBeKept, WhereTold, WorkView, Writes}
 
 -- ---- what a keeper keeps
 

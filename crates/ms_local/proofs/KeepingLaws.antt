@@ -1,12 +1,9 @@
 -- The text of a state is kept: the state is then read.
-use Rattle.std.proofs.Common.{◌≡◌, ◌≢◌, ℕ, List, [], ◌++◌, Option, Some, None, Result, Ok, Err, refl, sym, ap, ◌∙◌, ◌⊎◌, inl, inr}
-use Rattle.std.specs.Prelude.{length, IfSome}
+use Rattle.std.proofs.Common.{◌≡◌, ◌≢◌, ℕ, List, Some, Result, Ok, Err, ap, ◌∙◌, inl, inr}
 use Rattle.ms_base.specs.declared.names.Name.{Name}
 use Rattle.ms_base.specs.declared.outside.OutsideError.{OutsideError}
 use Rattle.ms_base.specs.declared.outside.OutsideError.TheVariants as errors
 use Rattle.ms_local.specs.declared.kept.Kept.{Kept}
-use Rattle.ms_local.specs.declared.kept.Todo.{Todo}
-use Rattle.ms_local.specs.declared.kept.Key.{Key}
 use Rattle.ms_local.specs.declared.kept.Key.TheVariants.{State, Object}
 use Rattle.ms_local.specs.Outside.{KeeperView, KeptTexts, IsKept, MayBeKept, Writes}
 use Rattle.ms_local.specs.Keeping.{HasState, MayHaveState, WritesKept, state_of}

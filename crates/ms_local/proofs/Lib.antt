@@ -5,4 +5,3 @@ mod KeepingLaws
 mod Running
 mod DeskLaws
 mod Showing
-mod OneSight

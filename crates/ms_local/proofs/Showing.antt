@@ -1,15 +1,14 @@
 -- What deeds that keep the rules show.
-use Rattle.std.proofs.Common.{◌≡◌, ℕ, zero, suc, ◌+◌, ◌≤◌, ◌<◌, Bool, true, false, List, [], ◌∷◌, ◌++◌, length, max, Option, Some, None, refl, sym, ap, ◌∙◌, subst, ◌⊎◌, inl, inr, arith, Contains, slice_set, slice_index_or, replicate}
+use Rattle.std.proofs.Common.{◌≡◌, ℕ, zero, suc, ◌≤◌, ◌<◌, Bool, true, false, List, [], ◌∷◌, length, Option, Some, None, refl, sym, ap, ◌∙◌, subst, ◌⊎◌, inl, inr, arith, Contains, slice_set, slice_index_or, replicate}
 use Rattle.std.specs.Prelude.{◌&&◌}
 use Rattle.std.proofs.lemmas.List.Elements.{Contains-append_right}
 use Rattle.ms_base.specs.declared.names.ServiceId.{ServiceId}
 use Rattle.ms_record.specs.declared.record.Record.{Record}
-use Rattle.ms_record.specs.declared.record.Record.TheVariants.{Accept}
-use Rattle.ms_local.specs.declared.deed.Sight.{Sight}
+use Rattle.ms_record.specs.declared.sight.Sight.{Sight}
 use Rattle.ms_local.specs.declared.deed.Message.{Message}
 use Rattle.ms_local.specs.declared.deed.Deed.{Deed}
 use Rattle.ms_local.specs.declared.deed.Deed.TheVariants.{Kept, Appended, Declared, Looked}
-use Rattle.ms_local.specs.Rules.{Bidding, Intent, IsDecided, Run, Step, begun_at, bid_begun, is_voter, sight_at, taken_by, takes, with_append, with_sight}
+use Rattle.ms_local.specs.Rules.{Bidding, Intent, Run, Step, begun_at, bid_begun, is_voter, sight_at, taken_by, takes, with_append, with_sight}
 
 -- ---- sights
 

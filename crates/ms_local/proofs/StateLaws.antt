@@ -1,12 +1,12 @@
 -- A state that is read is spelled so, and what is spelled so is read again.
-use Rattle.std.proofs.Common.{◌≡◌, ℕ, suc, ◌≤◌, ◌<◌, Bool, true, false, List, [], ◌∷◌, ◌++◌, length, Option, Some, None, refl, sym, ap, subst, ◌∙◌, append_assoc, append-nil, arith, inl, inr, ◌⊎◌}
+use Rattle.std.proofs.Common.{◌≡◌, ℕ, suc, Bool, true, false, List, [], ◌∷◌, ◌++◌, Option, Some, None, refl, sym, ap, subst, ◌∙◌, append_assoc, append-nil, arith, inl, inr, ◌⊎◌}
 use Rattle.std.specs.Prelude.{IfSome, ◌==◌, if◌then◌else◌}
 use Rattle.std.specs.Int.{w32, to_be_bytes}
 use Rattle.std.proofs.lemmas.Bool.{eqb-true}
 use Rattle.ms_base.specs.Options.{◌>>=◌}
 use Rattle.ms_base.specs.declared.limits.TheConstants.{LAST_NUMBER}
 use Rattle.ms_base.specs.declared.names.Name.{Name}
-use Rattle.ms_base.specs.Fields.{IsBytes, Field, byte_at, number_within, name_at, at_end}
+use Rattle.ms_base.specs.Fields.{IsBytes, byte_at, number_within, name_at, at_end}
 use Rattle.ms_base.specs.FieldLaws.{Takes, FieldsRead, FieldsSpelled}
 use Rattle.ms_local.specs.declared.kept.Base.{Base}
 use Rattle.ms_local.specs.declared.kept.Todo.{Todo}

@@ -3,7 +3,6 @@ use Rattle.std.specs.Prelude.{◌≡◌, ◌⊎◌, ℕ, ◌+◌, ◌*◌, ◌<�
 use Rattle.std.specs.List.{list_any}
 use mathlib.Core.List.{IsPrefix}
 use Rattle.ms_base.specs.declared.bytes.NoMemory.{NoMemory}
-use Rattle.ms_base.specs.declared.names.ServiceId.{ServiceId}
 use Rattle.ms_core.specs.Views.{log_in, votes_told}
 use Rattle.ms_link.specs.Links.{Learns as PassLearns}
 use Rattle.ms_record.specs.declared.ballot.Ballot.{Ballot}

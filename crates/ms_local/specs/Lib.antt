@@ -5,4 +5,3 @@ pub mod Keeping
 pub mod Rules
 pub mod Desks
 pub mod Learning
-pub mod Sights

@@ -3,7 +3,6 @@ use Rattle.std.specs.Prelude.{ℕ, true, List, Option}
 use Rattle.ms_base.specs.Memory.{Calls}
 use Rattle.ms_object.specs.Stores.{StoreView, text_of}
 use Rattle.ms_tree.specs.Files.{FileList}
-use Rattle.ms_local.specs.declared.kept.Key.{Key}
 use Rattle.ms_local.specs.declared.kept.Key.TheVariants.{State, Object}
 use Rattle.ms_local.specs.Outside.{KeeperView, KeptTexts, WorkView}
 

@@ -8,7 +8,7 @@ use Rattle.ms_record.specs.declared.record.Record.{Record}
 use Rattle.ms_record.specs.declared.record.Record.TheVariants.{Prepare, Accept}
 use Rattle.ms_record.specs.Offers.{IsOfGreatest}
 use Rattle.ms_record.specs.Votes.{IsMajority}
-use Rattle.ms_local.specs.declared.deed.Sight.{Sight}
+use Rattle.ms_record.specs.declared.sight.Sight.{Sight}
 use Rattle.ms_local.specs.declared.deed.Message.{Message}
 use Rattle.ms_local.specs.declared.deed.Message.TheVariants.{Vote as VoteText, Ref}
 use Rattle.ms_local.specs.declared.deed.Deed.{Deed}

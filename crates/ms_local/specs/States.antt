@@ -3,7 +3,6 @@ use Rattle.std.specs.Prelude.{◌≡◌, ℕ, ◌≤◌, ◌==◌, List, [], ◌
 use Rattle.std.specs.Int.{w32, to_be_bytes}
 use Rattle.ms_base.specs.Options.{◌>>=◌}
 use Rattle.ms_base.specs.declared.limits.TheConstants.{LAST_NUMBER}
-use Rattle.ms_base.specs.declared.names.Name.{Name}
 use Rattle.ms_base.specs.Fields.{Field, byte_at, number_within, name_at, at_end}
 use Rattle.ms_local.specs.declared.kept.Base.{Base}
 use Rattle.ms_local.specs.declared.kept.Todo.{Todo}

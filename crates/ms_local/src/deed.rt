@@ -1,17 +1,7 @@
 //! The outside calls of a command, each with its answer.
 
 use ms_base::{Bytes, Items, Name, ServiceId};
-use ms_record::{Ballot, ListId, Record, Vote};
-
-/// What one reading of a vote list shows of a bid: whether its Prepare is promised, and the Best before the first such place;
-/// whether an Accept of its ballot is taken; the greatest ballot at its position.
-#[derive(Clone, Copy)]
-pub struct Sight {
-    pub promised: bool,
-    pub best: Option<Vote>,
-    pub taken: bool,
-    pub top: Option<Ballot>,
-}
+use ms_record::{ListId, Record, Sight};
 
 /// What is appended to a list.
 #[derive(Drop)]

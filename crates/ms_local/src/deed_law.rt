@@ -4,7 +4,7 @@ ghost use Rattle.std.specs.Prelude.{◌≡◌, ◌+◌, ◌<◌, ◌++◌, ◌�
 ghost use Rattle.ms_base.specs.declared.names.ServiceId.{ServiceId};
 ghost use Rattle.ms_record.specs.declared.entry.Entry.{Entry};
 ghost use Rattle.ms_record.specs.declared.record.Record.TheVariants.{Accept};
-ghost use Rattle.ms_local.specs.declared.deed.Sight.{Sight};
+ghost use Rattle.ms_record.specs.declared.sight.Sight.{Sight};
 ghost use Rattle.ms_local.specs.declared.deed.Deed.{Deed};
 ghost use Rattle.ms_local.specs.declared.deed.Deed.TheVariants as acts;
 ghost use Rattle.ms_local.specs.Rules.{Bidding, Did, HasRun, Intent, IsDecided, Run, Step, begun_at, bid_begun, done, taken_by};

@@ -10,10 +10,9 @@ pub mod kept;
 pub mod learner;
 pub mod memory;
 pub mod outside;
-pub mod sight_law;
 pub mod spelling;
 
-pub use deed::{Deed, Deeds, Message, Sight};
+pub use deed::{Deed, Deeds, Message};
 pub use deed_law::{deeds_compose, deeds_go_on, deeds_show};
 pub use desk::{Desk, Lane, begin_line};
 pub use desk_law::{desks_lead, desks_stay};
@@ -22,7 +21,6 @@ pub use kept::{Base, Kept, Key, Todo};
 pub use learner::{LearnError, Learner, Learnt};
 pub use memory::{MemoryKeeper, MemoryWork};
 pub use outside::{Keeper, Work, WorkError};
-pub use sight_law::one_sight;
 pub use spelling::{kept_laws, parse_kept, push_kept};
 
 #[cfg(test)]

@@ -1,59 +1,16 @@
 //! A keeper and a work folder in memory, which fail at the calls that they are told.
 
-ghost use Rattle.std.specs.Prelude.{◌≡◌, [], None, IfOk, IsTrue, option_map};
-ghost use Rattle.ms_base.specs.Counts.{Causes};
-ghost use Rattle.ms_base.specs.Memory.{Calls, after_call, first_calls, is_due};
+ghost use Rattle.std.specs.Prelude.{◌≡◌, [], None, IfOk, option_map};
+ghost use Rattle.ms_base.specs.Memory.{first_calls};
 ghost use Rattle.ms_local.specs.Memory.{keeper_of, texts_by, work_of};
 
 use crate::kept::Key;
 use crate::outside::{Keeper, Work, WorkError};
-use ms_base::{Bytes, Name, NoMemory, OutsideError};
+use ms_base::{Bytes, Name, NoMemory, OutsideError, Script};
 use ms_tree::Files;
 use std::alloc::Global;
 use std::collections::BTreeMap;
 use std::marker::Model;
-
-/// Counts the calls, and says which of them fail.
-#[derive(Drop)]
-struct Script {
-    fails: Vec<u64>,
-    made: u64,
-    faults: u64,
-}
-
-impl Model for Script {
-    ghost use Rattle.ms_base.specs.Memory.{Calls};
-
-    ghost Value = { Calls };
-
-    ghost view = { λ s. record { fails = s.fails.items; made = s.made; faults = s.faults } };
-}
-
-impl Script {
-    fn new(fails: Vec<u64>) -> Script
-        ensures { result ≡ first_calls fails.items }
-    {
-        Script {
-            fails,
-            made: 0,
-            faults: 0,
-        }
-    }
-
-    /// Whether this call fails.
-    fn call(&mut self) -> bool
-        ensures answer { result ≡ is_due self.old }
-        ensures after { self.new ≡ after_call result self.old }
-        ensures cause { Causes (IsTrue result) self.old.faults self.new.faults }
-    {
-        let failed = self.fails.contains(&self.made);
-        self.made = self.made.saturating_add(1);
-        if failed {
-            self.faults = self.faults.saturating_add(1);
-        }
-        failed
-    }
-}
 
 /// A keeper in memory. The calls of the numbers in `fails`, counted from 0, fail and do nothing.
 #[derive(Drop)]
@@ -132,7 +89,7 @@ impl Keeper for MemoryKeeper {
     }
 
     fn faults(&self) -> u64 {
-        self.script.faults
+        self.script.faults()
     }
 }
 
@@ -204,6 +161,6 @@ impl Work for MemoryWork {
     }
 
     fn faults(&self) -> u64 {
-        self.script.faults
+        self.script.faults()
     }
 }

@@ -1,5 +1,4 @@
-use Rattle.std.proofs.Common.{◌≡◌, sym, subst, List, ℕ}
-use Rattle.ms_base.specs.declared.names.Name.{Name}
+use Rattle.std.proofs.Common.{sym, subst, List, ℕ}
 use Rattle.ms_local.specs.declared.kept.Key.{Key}
 use Rattle.ms_local.specs.declared.kept.Key.TheVariants.{Object}
 use Rattle.ms_local.specs.Outside.{IsKept}
