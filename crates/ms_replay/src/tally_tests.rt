@@ -3,11 +3,17 @@
 use crate::test_texts::*;
 use crate::{Standing, Tally};
 use ms_base::{Bytes, ClientId, Items, ServiceId};
-use ms_record::{Ballot, Entry, ServiceSet, Vote};
+use ms_record::{Ballot, ServiceSet};
 use std::alloc::Global;
 use std::test::*;
 
-/// Accepts of these entries at position 1 in round 1 of client 0.
+/// The ballot of each Accept.
+const BALLOT: Ballot = Ballot {
+    round: 1,
+    client: ClientId(0),
+};
+
+/// Accepts of these entries at position 1.
 fn accepts_of(alloc: Global, entries: &[&str]) -> Option<Items<Bytes>> {
     let mut list = Items::new(alloc);
     for entry in entries {
@@ -16,13 +22,6 @@ fn accepts_of(alloc: Global, entries: &[&str]) -> Option<Items<Bytes>> {
         list.push(Bytes::from_vec(text)).ok()?;
     }
     Some(list)
-}
-
-fn vote_of(entry: &Entry, ballot: Ballot) -> Vote {
-    Vote {
-        ballot,
-        entry: *entry,
-    }
 }
 
 /// A tally of three services after these texts of lists 0, 1 and 2.
@@ -75,33 +74,40 @@ fn chosen_of(tally: &Tally, voters: u32) -> Option<Standing> {
     Some(tally.chosen(1, &ServiceSet::all(voters)))
 }
 
+/// Whether the lists show that this entry is the greatest vote, and that none is chosen.
+fn is_seen(alloc: Global, lists: [&[&str]; 3], digits: &str) -> bool {
+    match (standing(alloc, lists, 3), entry_of(alloc, digits)) {
+        (Some(Standing::Seen { vote }), Some(entry)) => vote.ballot == BALLOT
+            && vote.entry == entry,
+        _ => false,
+    }
+}
+
+/// Whether the lists show that this entry alone is chosen.
+fn is_chosen(alloc: Global, lists: [&[&str]; 3], digits: &str) -> bool {
+    match (standing(alloc, lists, 3), entry_of(alloc, digits)) {
+        (Some(Standing::Chosen { entry }), Some(wanted)) => entry == wanted,
+        _ => false,
+    }
+}
+
+/// Whether the lists show nothing.
+fn is_unseen(alloc: Global, lists: [&[&str]; 3]) -> bool {
+    matches!(standing(alloc, lists, 3), Some(Standing::Unseen))
+}
+
 /// Of votes under one ballot the least bytes are seen.
 #[test]
-fn the_greatest_vote_is_seen(rt: HostRuntime) -> Result<(), Fail> {
-    let x = entry_of(rt.alloc(), X).ok_or("no entry")?;
-    let ballot = Ballot {
-        round: 1,
-        client: ClientId(0),
-    };
-    let seen = Standing::Seen {
-        vote: vote_of(&x, ballot),
-    };
-    assert_eq!(rt; standing(rt.alloc(), [&[Y, X], &[], &[]], 3), Some(seen));
-    Ok(())
+fn the_greatest_vote_is_seen(rt: HostRuntime) {
+    assert!(rt; is_seen(rt.alloc(), [&[Y, X], &[], &[]], X));
 }
 
 #[test]
-fn two_of_three_voters_choose(rt: HostRuntime) -> Result<(), Fail> {
-    let entry = entry_of(rt.alloc(), X).ok_or("no entry")?;
-    let chosen = Standing::Chosen { entry };
-    assert_eq!(rt; standing(rt.alloc(), [&[X], &[], &[X]], 3), Some(chosen));
-    Ok(())
+fn two_of_three_voters_choose(rt: HostRuntime) {
+    assert!(rt; is_chosen(rt.alloc(), [&[X], &[], &[X]], X));
 }
 
 #[test]
 fn nothing_is_seen_in_empty_lists(rt: HostRuntime) {
-    assert_eq!(rt;
-        standing(rt.alloc(), [&[], &[], &[]], 3),
-        Some(Standing::Unseen)
-    );
+    assert!(rt; is_unseen(rt.alloc(), [&[], &[], &[]]));
 }
