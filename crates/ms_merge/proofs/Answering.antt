@@ -10,7 +10,7 @@ use Rattle.ms_record.specs.declared.refusal.Refusal.TheVariants as refusals
 use Rattle.ms_tree.specs.Paths.{parts_of, long_part}
 use Rattle.ms_tree.specs.Files.{FileList, total_of}
 use Rattle.ms_tree.specs.Merging.{MayMerge, IsMerge, names_of, IsFirstPast, IsFirstLong, PassesLimit, Merges}
-use Rattle.ms_tree.proofs.MergeLaws.{merge_whole}
+use Rattle.ms_merge.proofs.TreeLaws.{TreeLaws}
 use Rattle.ms_merge.proofs.FreeNames.{first_of_all}
 use Rattle.ms_merge.proofs.Existing.{has_merge}
 
@@ -67,8 +67,8 @@ pub record HasAnswer (base ours theirs : FileList) (tag : List ℕ) : Type 0 whe
 refused : {base ours theirs : FileList} {tag : List ℕ} (files : FileList) (merge : IsMerge base ours theirs tag files) (what : Quantity) (value : ℕ) → PassesLimit files (names_of merge) what value → HasAnswer base ours theirs tag
 refused files merge what value passed = record { answer = Err (refusals.Limit what value); has_room = λ e. cc; is = (files, merge, passed) }
 
-pub has_answer : {base ours theirs : FileList} {tag : List ℕ} → MayMerge base ours theirs tag → HasAnswer base ours theirs tag
-has_answer {base} {ours} {theirs} {tag} may = answered (has_merge may).0 (has_merge may).1
+pub has_answer : TreeLaws → {base ours theirs : FileList} {tag : List ℕ} → MayMerge base ours theirs tag → HasAnswer base ours theirs tag
+has_answer laws {base} {ours} {theirs} {tag} may = answered (has_merge laws may).0 (has_merge laws may).1
   where
     answered : (files : FileList) → IsMerge base ours theirs tag files → HasAnswer base ours theirs tag
     answered files merge =
@@ -80,7 +80,7 @@ has_answer {base} {ours} {theirs} {tag} may = answered (has_merge may).0 (has_me
               | inl long ↦ refused files merge quantities.Path long.0 (few, small, long.1)
               | inr short ↦ elim (first_long (λ name. long_part (parts_of name)) 200 (names_of merge)) [
                 | inl long ↦ refused files merge quantities.Part long.0 (few, small, short, long.1)
-                | inr parts ↦ record { answer = Ok files; has_room = λ e. cc; is = record { merge = merge; whole = merge_whole may merge (record { few = few; small = small; short = short; parts_short = parts }) } }
+                | inr parts ↦ record { answer = Ok files; has_room = λ e. cc; is = record { merge = merge; whole = laws.merges.whole base ours theirs tag files may merge (record { few = few; small = small; short = short; parts_short = parts }) } }
               ]
             ]
           ]

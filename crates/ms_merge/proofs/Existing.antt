@@ -1,7 +1,5 @@
 -- A merge of any files: names for its files, and files that have what each path gives.
-use Rattle.std.proofs.Common.{◌≡◌, ℕ, ◌+◌, ◌≤◌, Bool, true, false, cond, if◌then◌else◌, List, [], ◌∷◌, ◌++◌, length, length-append, filter, Contains, not, Some, None, is_some, refl, sym, ◌∙◌, ap, subst, inl, inr, arith, Ordering, Less, Equal, Greater, nat_cmp}
-use Rattle.std.specs.Ordering.{match_ordering, ordering_reverse}
-use Rattle.std.specs.Cmp.Lexicographic.{slice_cmp, nat_list_cmp_total}
+use Rattle.std.proofs.Common.{◌≡◌, ℕ, ◌+◌, ◌≤◌, Bool, true, false, cond, if◌then◌else◌, List, [], ◌∷◌, ◌++◌, length, length-append, filter, Contains, not, Some, None, is_some, refl, sym, ◌∙◌, ap, subst, arith}
 use Rattle.std.specs.List.{list_any, IsDistinct}
 use Rattle.std.specs.Map.{keys_of}
 use Rattle.std.specs.Option.{option_or}
@@ -9,17 +7,16 @@ use Rattle.std.specs.Str.{bytes_eq}
 use Rattle.std.proofs.lemmas.Bool.{false≢true, false_from_ne_true}
 use Rattle.std.proofs.lemmas.Cmp.{nat_list_eq_equiv}
 use Rattle.std.proofs.lemmas.List.{length-map}
-use Rattle.std.proofs.lemmas.List.Elements.{All-contains, recursion_from_All}
+use Rattle.std.proofs.lemmas.List.Elements.{recursion_from_All}
 use Rattle.std.proofs.lemmas.List.Filters.{length-filter_both}
 use Rattle.std.proofs.lemmas.Map.Keys.{IsDistinct-cons}
 use Rattle.std.proofs.lemmas.Map.Made.{is_some-lookup, length-le_from_is_member}
-use Rattle.std.proofs.lemmas.Map.Views.{All-keys-insert_entry}
 use Rattle.std.proofs.lemmas.Slice.Eq.{bytes_eq-Decides}
 use Rattle.ms_tree.specs.Files.{FileList, text_at, with_file}
 use Rattle.ms_tree.specs.Paths.{is_directory_of}
 use Rattle.ms_tree.specs.Merging.{Side, standing, is_conflict, names_of, conflicts, directories, AreTagged, MayMerge, IsMerge}
-use Rattle.ms_tree.proofs.FileLaws.{text_at-with_file}
-use Rattle.ms_tree.proofs.Members.{Rises, Before, not_before_itself, all_from, in_cases, in_none, rises_none, rises_cons, rises_first, rises_rest}
+use Rattle.ms_merge.proofs.Lists.{Rises, Before, not_before_itself, all_from, rises_none, rises_first, rises_rest}
+use Rattle.ms_merge.proofs.TreeLaws.{TreeLaws}
 use Rattle.ms_merge.specs.Settling.{settled_at}
 use Rattle.ms_merge.proofs.GivenNames.{as_many}
 use Rattle.ms_merge.proofs.FreeNames.{has_free}
@@ -30,35 +27,12 @@ pub record HasNames (base ours theirs : FileList) (tag : List ℕ) (given : List
   pub named : FileList
   pub are : AreTagged base ours theirs tag given files named
 
-pub has_names : {base ours theirs : FileList} {tag : List ℕ} → MayMerge base ours theirs tag → (files : FileList) (given : List (List ℕ)) → length given + length files ≤ 2147483648 → HasNames base ours theirs tag given files
-has_names may [] given few = record { named = []; are = tt }
-has_names may (f ∷ files) given few =
-    let first = has_free may given f.0 (omega arith) in
-    let rest = has_names may files (given ++ first.name ∷ []) (omega (arith, length-append given (first.name ∷ []))) in
+pub has_names : TreeLaws → {base ours theirs : FileList} {tag : List ℕ} → MayMerge base ours theirs tag → (files : FileList) (given : List (List ℕ)) → length given + length files ≤ 2147483648 → HasNames base ours theirs tag given files
+has_names laws may [] given few = record { named = []; are = tt }
+has_names laws may (f ∷ files) given few =
+    let first = has_free laws.directory may given f.0 (omega arith) in
+    let rest = has_names laws may files (given ++ first.name ∷ []) (omega (arith, length-append given (first.name ∷ []))) in
     record { named = (first.name, f.1) ∷ rest.named; are = (first.is, refl, rest.are) }
-
--- ---- a file more keeps the order
-
-after : (path q : List ℕ) → slice_cmp nat_cmp path q ≡ Greater → Before q path
-after path q h = nat_list_cmp_total.antisymm q path ∙ ap ordering_reverse h
-
-with_file_rises : (path text : List ℕ) (files : FileList) → Rises (keys_of files) → Rises (keys_of (with_file files path text))
-with_file_rises path text [] rise = rises_cons path [] (λ y h. absurd (in_none y h)) rises_none
-with_file_rises path text (f ∷ files) rise = at_place (slice_cmp nat_cmp path f.0) refl (with_file_rises path text files (rises_rest f.0 (keys_of files) rise))
-  where
-    behind : slice_cmp nat_cmp path f.0 ≡ Less → (y : List ℕ) → Contains (f.0 ∷ keys_of files) y → Before path y
-    behind h y has = elim (in_cases f.0 (keys_of files) y has) [
-      | inl same ↦ subst (λ (z : List ℕ). Before path z) same h
-      | inr later ↦ nat_list_cmp_total.trans path f.0 y h (rises_first f.0 (keys_of files) rise y later)
-    ]
-
-    at_place : (o : Ordering) → slice_cmp nat_cmp path f.0 ≡ o → Rises (keys_of (with_file files path text))
-        → Rises (keys_of (match_ordering o ((path, text) ∷ f ∷ files) ((f.0, text) ∷ files) (f ∷ with_file files path text)))
-    at_place Less h rest = rises_cons path (f.0 ∷ keys_of files) (behind h) rise
-    at_place Equal h rest = rise
-    at_place Greater h rest = rises_cons f.0 (keys_of (with_file files path text))
-        (λ y has. All-contains (Before f.0) (keys_of (with_file files path text)) y
-        (All-keys-insert_entry (slice_cmp nat_cmp) path text (Before f.0) files (all_from (Before f.0) (keys_of files) (rises_first f.0 (keys_of files) rise)) (after path f.0 h)) has) rest
 
 -- ---- files that have what each path gives
 
@@ -66,29 +40,29 @@ put : FileList → List ℕ → Side → FileList
 put files path None = files
 put files path (Some text) = with_file files path text
 
-put_rises : (files : FileList) (path : List ℕ) (gives : Side) → Rises (keys_of files) → Rises (keys_of (put files path gives))
+put_rises : TreeLaws → (files : FileList) (path : List ℕ) (gives : Side) → Rises (keys_of files) → Rises (keys_of (put files path gives))
 unfolding put
-put_rises files path None rise = rise
-put_rises files path (Some text) rise = with_file_rises path text files rise
+put_rises laws files path None rise = rise
+put_rises laws files path (Some text) rise = laws.rises files path text rise
 
 -- what the paths of the rows give
 pub made : (List ℕ → Side) → FileList → FileList
 made gives [] = []
 made gives (f ∷ rows) = put (made gives rows) f.0 (gives f.0)
 
-pub made_rises : (gives : List ℕ → Side) (rows : FileList) → Rises (keys_of (made gives rows))
+pub made_rises : TreeLaws → (gives : List ℕ → Side) (rows : FileList) → Rises (keys_of (made gives rows))
 unfolding made
-made_rises gives [] = rises_none
-made_rises gives (f ∷ rows) = put_rises (made gives rows) f.0 (gives f.0) (made_rises gives rows)
+made_rises laws gives [] = rises_none
+made_rises laws gives (f ∷ rows) = put_rises laws (made gives rows) f.0 (gives f.0) (made_rises laws gives rows)
 
-put_at : (files : FileList) (path q : List ℕ) (gives : Side) → text_at (put files path gives) q ≡ (if bytes_eq q path then option_or gives (text_at files q) else text_at files q)
+put_at : TreeLaws → (files : FileList) (path q : List ℕ) (gives : Side) → text_at (put files path gives) q ≡ (if bytes_eq q path then option_or gives (text_at files q) else text_at files q)
 unfolding put
-put_at files path q None = by (bytes_eq q path)
+put_at laws files path q None = by (bytes_eq q path)
   where
     by : (b : Bool) → text_at files q ≡ (if b then text_at files q else text_at files q)
     by true = refl
     by false = refl
-put_at files path q (Some text) = text_at-with_file path text q files
+put_at laws files path q (Some text) = laws.put files path text q
 
 made_here : (b : Bool) (gives old : Side) (text : List ℕ) (rest now : Side) → rest ≡ (if is_some old then gives else None) → now ≡ (if b then option_or gives rest else rest) → now ≡ (if is_some (cond b (Some text) old) then gives else None)
 made_here false gives old text rest now e f = f ∙ e
@@ -96,12 +70,12 @@ made_here true (Some x) old text rest now e f = f
 made_here true None None text rest now e f = f ∙ e
 made_here true None (Some x) text rest now e f = f ∙ e
 
-pub made_at : (gives : List ℕ → Side) (rows : FileList) (q : List ℕ) → text_at (made gives rows) q ≡ (if is_some (text_at rows q) then gives q else None)
+pub made_at : TreeLaws → (gives : List ℕ → Side) (rows : FileList) (q : List ℕ) → text_at (made gives rows) q ≡ (if is_some (text_at rows q) then gives q else None)
 unfolding made
-made_at gives [] q = refl
-made_at gives (f ∷ rows) q =
-    made_here (bytes_eq q f.0) (gives q) (text_at rows q) f.1 (text_at (made gives rows) q) (text_at (put (made gives rows) f.0 (gives f.0)) q) (made_at gives rows q)
-    (put_at (made gives rows) f.0 q (gives f.0) ∙ at_same (bytes_eq q f.0) refl)
+made_at laws gives [] q = refl
+made_at laws gives (f ∷ rows) q =
+    made_here (bytes_eq q f.0) (gives q) (text_at rows q) f.1 (text_at (made gives rows) q) (text_at (put (made gives rows) f.0 (gives f.0)) q) (made_at laws gives rows q)
+    (put_at laws (made gives rows) f.0 q (gives f.0) ∙ at_same (bytes_eq q f.0) refl)
   where
     at_same : (b : Bool) → bytes_eq q f.0 ≡ b → (if b then option_or (gives f.0) (text_at (made gives rows) q) else text_at (made gives rows) q) ≡ (if b then option_or (gives q) (text_at (made gives rows) q) else text_at (made gives rows) q)
     at_same true e = ap (λ (p : List ℕ). option_or (gives p) (text_at (made gives rows) q)) (sym ((bytes_eq-Decides q f.0).0 e))
@@ -139,13 +113,13 @@ pub record HasSettled (base ours theirs doubled : FileList) : Type 0 where
   pub rise : Rises (keys_of settled)
   pub are : (path : List ℕ) → text_at settled path ≡ option_or (text_at doubled path) (settled_at base ours theirs path)
 
-pub has_settled : (base ours theirs doubled : FileList) → HasSettled base ours theirs doubled
-has_settled base ours theirs doubled =
+pub has_settled : TreeLaws → (base ours theirs doubled : FileList) → HasSettled base ours theirs doubled
+has_settled laws base ours theirs doubled =
     let gives : List ℕ → Side = λ path. option_or (text_at doubled path) (settled_at base ours theirs path) in
     record {
       settled = made gives (doubled ++ (ours ++ theirs));
-      rise = made_rises gives (doubled ++ (ours ++ theirs));
-      are = λ path. made_at gives (doubled ++ (ours ++ theirs)) path
+      rise = made_rises laws gives (doubled ++ (ours ++ theirs));
+      are = λ path. made_at laws gives (doubled ++ (ours ++ theirs)) path
           ∙ ap (λ (o : Side). if is_some o then gives path else None) (text_at-append doubled (ours ++ theirs) path ∙ ap (option_or (text_at doubled path)) (text_at-append ours theirs path))
           ∙ settled_whole (text_at doubled path) (text_at base path) (text_at ours path) (text_at theirs path);
     }
@@ -156,13 +130,13 @@ pub record HasFiles (settled moved : FileList) : Type 0 where
   pub rise : Rises (keys_of files)
   pub are : (path : List ℕ) → text_at files path ≡ option_or (text_at moved path) (if is_some (text_at (directories settled) path) then None else text_at settled path)
 
-pub has_files : (settled moved : FileList) → HasFiles settled moved
-has_files settled moved =
+pub has_files : TreeLaws → (settled moved : FileList) → HasFiles settled moved
+has_files laws settled moved =
     let gives : List ℕ → Side = λ path. option_or (text_at moved path) (if is_some (text_at (directories settled) path) then None else text_at settled path) in
     record {
       files = made gives (moved ++ settled);
-      rise = made_rises gives (moved ++ settled);
-      are = λ path. made_at gives (moved ++ settled) path ∙ ap (λ (o : Side). if is_some o then gives path else None) (text_at-append moved settled path)
+      rise = made_rises laws gives (moved ++ settled);
+      are = λ path. made_at laws gives (moved ++ settled) path ∙ ap (λ (o : Side). if is_some o then gives path else None) (text_at-append moved settled path)
           ∙ files_whole (text_at moved path) (text_at settled path) (is_some (text_at (directories settled) path));
     }
 
@@ -213,13 +187,13 @@ few_names {base} {ours} {theirs} {tag} may files m =
 
 -- ---- the merge
 
-pub has_merge : {base ours theirs : FileList} {tag : List ℕ} → MayMerge base ours theirs tag → (files : FileList) × IsMerge base ours theirs tag files
-has_merge {base} {ours} {theirs} {tag} may =
-    let d = has_names may (conflicts base ours theirs) [] (omega (arith, few_conflicts may)) in
+pub has_merge : TreeLaws → {base ours theirs : FileList} {tag : List ℕ} → MayMerge base ours theirs tag → (files : FileList) × IsMerge base ours theirs tag files
+has_merge laws {base} {ours} {theirs} {tag} may =
+    let d = has_names laws may (conflicts base ours theirs) [] (omega (arith, few_conflicts may)) in
     let few = few_doubled may d.named d.are in
-    let s = has_settled base ours theirs d.named in
-    let m = has_names may (directories s.settled) (keys_of d.named) (omega (arith, few, few_directories may d.named s.settled few s.rise s.are, length-map d.named (λ (f : List ℕ × List ℕ). f.0))) in
-    let f = has_files s.settled m.named in (
+    let s = has_settled laws base ours theirs d.named in
+    let m = has_names laws may (directories s.settled) (keys_of d.named) (omega (arith, few, few_directories may d.named s.settled few s.rise s.are, length-map d.named (λ (f : List ℕ × List ℕ). f.0))) in
+    let f = has_files laws s.settled m.named in (
       f.files,
       record { doubled = d.named; settled = s.settled; moved = m.named; are_doubled = d.are; settled_rise = s.rise; are_settled = s.are; are_moved = m.are; rise = f.rise; are_files = f.are },
     )

@@ -16,9 +16,8 @@ use Rattle.std.proofs.lemmas.Slice.Eq.{bytes_eq-Decides}
 use Rattle.ms_tree.specs.Paths.{is_directory_of}
 use Rattle.ms_tree.specs.Files.{FileList, text_at, IsFiles}
 use Rattle.ms_tree.specs.Merging.{Side, tagged, is_taken, is_free, IsTagged, MayMerge}
-use Rattle.ms_tree.proofs.ClashLaws.{some_at}
-use Rattle.ms_tree.proofs.Members.{in_here, in_later, in_cases, in_none, map_has, all_from}
-use Rattle.ms_tree.proofs.PathLaws.{directory_Decides}
+use Rattle.ms_merge.proofs.Lists.{in_here, in_later, in_cases, in_none, map_has, all_from}
+use Rattle.ms_merge.proofs.TreeLaws.{DirectoryLaw}
 
 -- ---- what is taken begins a path
 
@@ -77,13 +76,23 @@ either : (a b : Bool) → (a || b) ≡ true → (a ≡ true) ⊎ (b ≡ true)
 either true b h = inl refl
 either false b h = inr h
 
-taken_begins : (files : FileList) (name : List ℕ) → is_taken files name ≡ true → Contains (beginnings (keys_of files)) name
-taken_begins files name h =
+-- a file whose path passes
+passing : (test : List ℕ → Bool) (files : FileList) → list_any (λ f. test f.0) files ≡ true → (path : List ℕ) × Contains (keys_of files) path × (test path ≡ true)
+passing test [] h = absurd (false≢true h)
+passing test (f ∷ files) h = by (test f.0) refl h (passing test files)
+  where
+    by : (b : Bool) → test f.0 ≡ b → (b || list_any (λ f. test f.0) files) ≡ true → (list_any (λ f. test f.0) files ≡ true → (path : List ℕ) × Contains (keys_of files) path × (test path ≡ true))
+        → (path : List ℕ) × Contains (f.0 ∷ keys_of files) path × (test path ≡ true)
+    by true e h rest = (f.0, in_here f.0 (keys_of files), e)
+    by false e h rest = let r = rest h in (r.0, in_later f.0 (keys_of files) r.0 r.1, r.2)
+
+taken_begins : DirectoryLaw → (files : FileList) (name : List ℕ) → is_taken files name ≡ true → Contains (beginnings (keys_of files)) name
+taken_begins law files name h =
     elim (either (is_some (text_at files name)) (list_any (λ f. is_directory_of name f.0) files) h) [
       | inl path ↦ begins (keys_of files) name name [] (key_at files name path) (sym (append-nil name))
-      | inr above ↦ (let q = some_at (λ p. is_directory_of name p) files above in
-          let d = (directory_Decides name q.0).0 q.2 in
-          begins (keys_of files) q.0 name (47 ∷ d.0) (key_at files q.0 q.1) d.1)
+      | inr above ↦ (let q = passing (λ p. is_directory_of name p) files above in
+          let d = (law name q.0).0 q.2 in
+          begins (keys_of files) q.0 name (47 ∷ d.0) q.1 d.1)
     ]
 
 -- ---- all names that are not free
@@ -98,17 +107,17 @@ four_ways false false true d h = inr (inr (inl refl))
 four_ways false false false true h = inr (inr (inr refl))
 four_ways false false false false h = absurd (false≢true (sym h))
 
-not_free : (base ours theirs : FileList) (given : List (List ℕ)) (name : List ℕ) → is_free base ours theirs given name ≡ false → Contains (obstacles base ours theirs given) name
-not_free base ours theirs given name h =
+not_free : DirectoryLaw → (base ours theirs : FileList) (given : List (List ℕ)) (name : List ℕ) → is_free base ours theirs given name ≡ false → Contains (obstacles base ours theirs given) name
+not_free law base ours theirs given name h =
     let one : List (List ℕ) = beginnings (keys_of base) in
     let two : List (List ℕ) = beginnings (keys_of ours) in
     let three : List (List ℕ) = beginnings (keys_of theirs) in
     elim (four_ways (is_taken base name) (is_taken ours name) (is_taken theirs name) (list_any (bytes_eq name) given) h) [
-      | inl a ↦ Contains-append_left one (two ++ (three ++ given)) name (taken_begins base name a)
+      | inl a ↦ Contains-append_left one (two ++ (three ++ given)) name (taken_begins law base name a)
       | inr rest ↦ Contains-append_right one (two ++ (three ++ given)) name (elim rest [
-        | inl b ↦ Contains-append_left two (three ++ given) name (taken_begins ours name b)
+        | inl b ↦ Contains-append_left two (three ++ given) name (taken_begins law ours name b)
         | inr rest ↦ Contains-append_right two (three ++ given) name (elim rest [
-          | inl c ↦ Contains-append_left three given name (taken_begins theirs name c)
+          | inl c ↦ Contains-append_left three given name (taken_begins law theirs name c)
           | inr d ↦ Contains-append_right three given name (Contains-from_any (λ x y e. (bytes_eq-Decides x y).0 e) name given d)
         ])
       ])
@@ -194,15 +203,15 @@ first_of_all test (suc n) =
     by false e none = inr (λ k less. below_more (λ k. test k ≡ false) n none e k (omega arith))
 
 -- the names that are tried cannot all be taken
-not_all_taken : (base ours theirs : FileList) (tag : List ℕ) (given : List (List ℕ)) (path : List ℕ) (n : ℕ) → n < 2 ^ 64 → length (obstacles base ours theirs given) < n
+not_all_taken : DirectoryLaw → (base ours theirs : FileList) (tag : List ℕ) (given : List (List ℕ)) (path : List ℕ) (n : ℕ) → n < 2 ^ 64 → length (obstacles base ours theirs given) < n
     → ((k : ℕ) → k < n → is_free base ours theirs given (tagged tag path k) ≡ false) → ⊥
-not_all_taken base ours theirs tag given path n small many none =
+not_all_taken law base ours theirs tag given path n small many none =
     let less : length (candidates tag path n) ≤ length (obstacles base ours theirs given) =
     length-le_from_is_member nat_list_eq_equiv (candidates tag path n) (obstacles base ours theirs given) (all_differ tag path n small)
     (λ name has.
     let c = candidate_is tag path n name (Contains-from_any (λ x y e. (bytes_eq-Decides x y).0 e) name (candidates tag path n) has) in
     list_any-from_Contains nat_list_eq_equiv name (obstacles base ours theirs given)
-    (subst (λ (p : List ℕ). Contains (obstacles base ours theirs given) p) c.2 (not_free base ours theirs given (tagged tag path c.0) (none c.0 c.1)))) in
+    (subst (λ (p : List ℕ). Contains (obstacles base ours theirs given) p) c.2 (not_free law base ours theirs given (tagged tag path c.0) (none c.0 c.1)))) in
     omega (arith, length-candidates tag path n)
 
 -- a free tagged name, and the number of tries below it
@@ -211,17 +220,17 @@ pub record HasFree (base ours theirs : FileList) (tag : List ℕ) (given : List 
   pub is : IsTagged base ours theirs tag given path name
   pub near : is.number < 4294967295
 
-pub has_free : {base ours theirs : FileList} {tag : List ℕ} → MayMerge base ours theirs tag → (given : List (List ℕ)) (path : List ℕ) → length given ≤ 2147483648 → HasFree base ours theirs tag given path
-has_free {base} {ours} {theirs} {tag} may given path few =
+pub has_free : DirectoryLaw → {base ours theirs : FileList} {tag : List ℕ} → MayMerge base ours theirs tag → (given : List (List ℕ)) (path : List ℕ) → length given ≤ 2147483648 → HasFree base ours theirs tag given path
+has_free law {base} {ours} {theirs} {tag} may given path few =
     let bound = few_obstacles may given in
     elim (first_of_all (λ k. is_free base ours theirs given (tagged tag path k)) 4294967295) [
       | inl f ↦ record { name = tagged tag path f.number; is = record { number = f.number; spelled = refl; free = f.passes; first = f.before }; near = f.below }
-      | inr none ↦ absurd (not_all_taken base ours theirs tag given path 4294967295 (lit< tt) (omega arith) none)
+      | inr none ↦ absurd (not_all_taken law base ours theirs tag given path 4294967295 (lit< tt) (omega arith) none)
     ]
 
 -- so the tries never end without a free name
-pub all_tried : {base ours theirs : FileList} {tag : List ℕ} → MayMerge base ours theirs tag → (given : List (List ℕ)) (path : List ℕ) (tried : ℕ) → length given ≤ 2147483648 → 4294967295 ≤ tried
+pub all_tried : DirectoryLaw → {base ours theirs : FileList} {tag : List ℕ} → MayMerge base ours theirs tag → (given : List (List ℕ)) (path : List ℕ) (tried : ℕ) → length given ≤ 2147483648 → 4294967295 ≤ tried
     → ((k : ℕ) → k < tried → is_free base ours theirs given (tagged tag path k) ≡ false) → ⊥
-all_tried {base} {ours} {theirs} may given path tried few end none =
-    let f = has_free may given path few in
+all_tried law {base} {ours} {theirs} may given path tried few end none =
+    let f = has_free law may given path few in
     false≢true (sym (none f.is.number (omega (arith, f.near))) ∙ ap (is_free base ours theirs given) (sym f.is.spelled) ∙ f.is.free)

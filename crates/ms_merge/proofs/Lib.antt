@@ -1,3 +1,5 @@
+pub mod Lists
+pub mod TreeLaws
 pub mod Steps
 pub mod GivenNames
 pub mod LimitLaws
@@ -6,3 +8,4 @@ pub mod FreeNames
 pub mod Existing
 pub mod Answering
 pub mod OneAnswer
+pub mod InTurn

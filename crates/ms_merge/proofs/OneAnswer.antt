@@ -1,7 +1,6 @@
 -- A merge has one answer: the same names, and so the same limit first.
-use Rattle.std.proofs.Common.{◌≡◌, ◌≢◌, ℕ, ◌+◌, ◌<◌, ◌≤◌, false, nat_lt, List, [], ◌∷◌, ◌++◌, length, take, find, sum_by, All, Some, None, Result, Ok, Err, refl, sym, ◌∙◌, ap, subst, inl, inr, arith}
-use Rattle.std.specs.Map.{keys_of, values_of}
-use Rattle.std.specs.Option.{option_or}
+use Rattle.std.proofs.Common.{◌≡◌, ◌≢◌, ℕ, ◌+◌, ◌<◌, ◌≤◌, false, nat_lt, List, [], ◌∷◌, length, take, find, sum_by, All, Some, None, Result, Ok, Err, refl, sym, ◌∙◌, ap, subst, inl, inr, arith}
+use Rattle.std.specs.Map.{values_of}
 use Rattle.std.proofs.lemmas.Bool.{cases_lt, le-ltb}
 use Rattle.std.proofs.lemmas.List.{take-map, take-take}
 use Rattle.std.proofs.lemmas.List.Elements.{All-head, All-tail}
@@ -11,22 +10,9 @@ use Rattle.ms_base.specs.declared.names.Quantity.TheVariants as quantities
 use Rattle.ms_record.specs.declared.refusal.Refusal.{Refusal}
 use Rattle.ms_record.specs.declared.refusal.Refusal.TheVariants as refusals
 use Rattle.ms_tree.specs.Paths.{parts_of, long_part}
-use Rattle.ms_tree.specs.Files.{FileList, text_at, total_of, IsFiles}
-use Rattle.ms_tree.specs.Merging.{standing, conflicts, directories, AreTagged, MayMerge, IsMerge, names_of, IsMerged, IsFirstPast, IsFirstLong, PassesLimit, Merges}
-use Rattle.ms_tree.proofs.MergeNames.{one_naming}
-use Rattle.ms_tree.proofs.MergeLaws.{same_texts, merge_exact, one_merge}
-
--- ---- the names
-
-one_names : (base ours theirs : FileList) (tag : List ℕ) (files others : FileList) (a : IsMerge base ours theirs tag files) (b : IsMerge base ours theirs tag others) → names_of a ≡ names_of b
-one_names base ours theirs tag files others a b =
-    let doubled : a.doubled ≡ b.doubled = one_naming base ours theirs tag (conflicts base ours theirs) a.doubled b.doubled [] a.are_doubled b.are_doubled in
-    let settled : a.settled ≡ b.settled =
-    same_texts a.settled b.settled a.settled_rise b.settled_rise (λ path. a.are_settled path ∙ ap (λ (l : FileList). option_or (text_at l path) (standing (text_at base path) (text_at ours path) (text_at theirs path))) doubled ∙ sym (b.are_settled path)) in
-    let moved : a.moved ≡ b.moved =
-    one_naming base ours theirs tag (directories a.settled) a.moved b.moved (keys_of a.doubled) a.are_moved
-    (subst (λ (l : FileList). AreTagged base ours theirs tag (keys_of l) (directories a.settled) b.moved) (sym doubled) (subst (λ (l : FileList). AreTagged base ours theirs tag (keys_of b.doubled) (directories l) b.moved) (sym settled) b.are_moved)) in
-    ap (λ (l : FileList). keys_of l ++ keys_of a.moved) doubled ∙ ap (λ (l : FileList). keys_of b.doubled ++ keys_of l) moved
+use Rattle.ms_tree.specs.Files.{FileList, total_of, IsFiles}
+use Rattle.ms_tree.specs.Merging.{MayMerge, IsMerge, names_of, IsMerged, IsFirstPast, IsFirstLong, PassesLimit, Merges}
+use Rattle.ms_tree.specs.MergeLaws.{MergeLaws}
 
 -- ---- the limit
 
@@ -110,21 +96,21 @@ module _ (files : FileList) (names : List (List ℕ)) where
 
 -- ---- the answer
 
-module _ {base ours theirs : FileList} {tag : List ℕ} (may : MayMerge base ours theirs tag) where
+module _ (laws : MergeLaws) {base ours theirs : FileList} {tag : List ℕ} (may : MayMerge base ours theirs tag) where
   same_limit : (files others : FileList) (a : IsMerge base ours theirs tag files) (b : IsMerge base ours theirs tag others) (what that : Quantity) (value other : ℕ)
       → PassesLimit files (names_of a) what value → PassesLimit others (names_of b) that other → Same what value that other
   same_limit files others a b what that value other p q =
-      let one : files ≡ others = one_merge base ours theirs tag files others a b in
-      let names : names_of a ≡ names_of b = one_names base ours theirs tag files others a b in
+      let one : files ≡ others = laws.one base ours theirs tag files others a b in
+      let names : names_of a ≡ names_of b = laws.names base ours theirs tag files others a b in
       one_limit files (names_of a) what that value other p
       (subst (λ (l : List (List ℕ)). PassesLimit files l that other) (sym names) (subst (λ (l : FileList). PassesLimit l (names_of b) that other) (sym one) q))
 
   not_both : (files others : FileList) (what : Quantity) (value : ℕ) → IsMerged base ours theirs tag files → (b : IsMerge base ours theirs tag others) → PassesLimit others (names_of b) what value → ⊥
   not_both files others what value a b passed =
-      merge_exact may b (subst (λ (l : FileList). IsFiles l) (one_merge base ours theirs tag files others a.merge b) a.whole) what value passed
+      laws.exact base ours theirs tag others what value may b passed (subst (λ (l : FileList). IsFiles l) (laws.one base ours theirs tag files others a.merge b) a.whole)
 
   pub answers_same : (one other : Result FileList Refusal) → one ≢ Err refusals.NoMemory → other ≢ Err refusals.NoMemory → Merges base ours theirs tag one → Merges base ours theirs tag other → one ≡ other
-  answers_same (Ok files) (Ok others) room more a b = ap (λ (l : FileList). Ok l) (one_merge base ours theirs tag files others a.merge b.merge)
+  answers_same (Ok files) (Ok others) room more a b = ap (λ (l : FileList). Ok l) (laws.one base ours theirs tag files others a.merge b.merge)
   answers_same (Ok files) (Err (refusals.Limit what value)) room more a b = absurd (not_both files b.0 what value a b.1 b.2)
   answers_same (Ok files) (Err refusals.NoMemory) room more a b = absurd (more refl)
   answers_same (Ok files) (Err other) room more a b = absurd b

@@ -1,5 +1,6 @@
 -- Which limit merged files pass first, part by part.
 use Rattle.std.specs.Prelude.{ℕ, ◌≤◌, List, length, All, Result, Ok, Err}
+use Rattle.ms_base.specs.declared.limits.TheConstants.{PART_BYTES, PATH_BYTES, TOTAL_BYTES}
 use Rattle.ms_base.specs.declared.names.Quantity.TheVariants as quantities
 use Rattle.ms_record.specs.declared.refusal.Refusal.{Refusal}
 use Rattle.ms_record.specs.declared.refusal.Refusal.TheVariants as refusals
@@ -16,13 +17,13 @@ Fits files names (Err other) = ⊥
 
 -- the bytes of all files
 abbrev pub FitsTotal : FileList → Result Unit Refusal → Type 0
-FitsTotal files (Ok _) = total_of files ≤ 1073741824
+FitsTotal files (Ok _) = total_of files ≤ TOTAL_BYTES
 FitsTotal files (Err (refusals.Limit quantities.Total value)) = IsFirstPast files value
 FitsTotal files (Err other) = ⊥
 
 -- the names, and their parts
 abbrev pub FitsNames : List (List ℕ) → Result Unit Refusal → Type 0
-FitsNames names (Ok _) = All (λ name. length name ≤ 1024) names × All (λ name. long_part (parts_of name) ≤ 200) names
-FitsNames names (Err (refusals.Limit quantities.Path value)) = IsFirstLong length 1024 names value
-FitsNames names (Err (refusals.Limit quantities.Part value)) = All (λ name. length name ≤ 1024) names × IsFirstLong (λ name. long_part (parts_of name)) 200 names value
+FitsNames names (Ok _) = All (λ name. length name ≤ PATH_BYTES) names × All (λ name. long_part (parts_of name) ≤ PART_BYTES) names
+FitsNames names (Err (refusals.Limit quantities.Path value)) = IsFirstLong length PATH_BYTES names value
+FitsNames names (Err (refusals.Limit quantities.Part value)) = All (λ name. length name ≤ PATH_BYTES) names × IsFirstLong (λ name. long_part (parts_of name)) PART_BYTES names value
 FitsNames names (Err other) = ⊥

@@ -4,7 +4,9 @@ ghost use Rattle.std.specs.Prelude.{◌≡◌, ◌≢◌, ◌<◌, ◌≤◌, �
 ghost use Rattle.ms_record.specs.declared.refusal.Refusal.{Refusal};
 ghost use Rattle.ms_record.specs.declared.refusal.Refusal.TheVariants as refusals;
 ghost use Rattle.ms_tree.specs.Files.{FileList};
-ghost use Rattle.ms_tree.specs.Merging.{MayMerge, IsTagged, IsMerge, names_of, Merges};
+ghost use Rattle.ms_tree.specs.Merging.{MayMerge, IsTagged, IsMerge, names_of, IsMergedAll, Merges};
+
+use ms_tree::{file_laws, merge_laws, path_laws};
 
 /// There is a merge of any files that keep all rules, whatever limits it passes: `docs/PROTOCOL.md`, merge. So there is an
 /// answer of `merge` other than `NoMemory`, and only one. A merge gives at most 400,000 names, and each path has a first
@@ -17,4 +19,9 @@ pub fn merge_exists()
     ensures few { (base ours theirs : FileList) (tag : List ℕ) (files : FileList) → MayMerge base ours theirs tag → (merge : IsMerge base ours theirs tag files) → length (names_of merge) ≤ 400000 }
     ensures free { (base ours theirs : FileList) (tag : List ℕ) (given : List (List ℕ)) (path : List ℕ) → MayMerge base ours theirs tag → length given ≤ 2 ^ 31
         → (name : List ℕ) × (tagged : IsTagged base ours theirs tag given path name) × (tagged.number < 2 ^ 32 - 1) }
-{}
+    ensures in_turn { (base ours : FileList) (ts : List FileList) (tag : List ℕ) (f g : FileList) → IsMergedAll base ours ts tag f → IsMergedAll base ours ts tag g → f ≡ g }
+{
+    path_laws();
+    file_laws();
+    merge_laws();
+}

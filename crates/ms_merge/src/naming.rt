@@ -8,7 +8,7 @@ ghost use Rattle.ms_merge.specs.Naming.{IsGiven, IsNamed};
 
 use crate::sides::Sides;
 use ms_base::NoMemory;
-use ms_tree::{Draft, DraftFile, Files};
+use ms_tree::{Draft, DraftFile, Files, path_laws};
 use std::alloc::Global;
 
 /// The names that were given, with the texts that stand there.
@@ -69,6 +69,7 @@ fn first_free(
     requires given { IsGiven given.now.by_name (map drafted given.now.order.items) }
     ensures { IfOk result (λ name. IsTagged sides.now.base.now sides.now.ours.now sides.now.theirs.now tag.now (keys_of (map drafted given.now.order.items)) path.now (string_bytes name)) }
 {
+    path_laws();
     for number in 0..u32::MAX {
         let name = tagged(alloc, tag, path, number)?;
         if is_free(sides, given, name.as_str())? {

@@ -6,3 +6,4 @@ mod Pushed
 mod RowLaws
 mod Sizes
 mod StoreLaws
+pub mod BlobLaws

@@ -20,8 +20,7 @@ use Rattle.ms_object.specs.declared.object.Object.{Object}
 use Rattle.ms_object.specs.declared.object.Object.TheVariants.{Blob, File, Dir, Version, Blob2, File2, Dir2, Version2}
 use Rattle.ms_object.specs.declared.object.Row.{Row}
 use Rattle.ms_object.specs.declared.object.SizedRow.{SizedRow}
-use Rattle.ms_object.specs.Labels.{IsLabel}
-use Rattle.ms_object.specs.Objects.{AreNames, AreRows, IsBlob, IsFile, IsVersion, IsObject, Spells, blob_size, least_blob, most_file, most_rows, blobs_in, children_of, names_text, object_text, row_text, sized_row_text, blob_tag, file_tag, dir_tag, version_tag, blob_object, file_object, version_object, blob_text, file_text, dir_text, version_text}
+use Rattle.ms_object.specs.Objects.{AreNames, AreRows, IsBlob, IsFile, IsVersion, IsObject, Spells, blob_size, least_blob, most_file, most_rows, blobs_in, children_of, names_text, object_text, row_text, sized_row_text, blob_tag, file_tag, dir_tag, version_tag, blob_object, file_object, version_object, blob_text, file_text, version_text}
 use Rattle.ms_object.specs.Reading.{RowReader, given_if, names_at, blob_at, file_head_at, file_at, rows_at, row_at, sized_row_at, row_count_at, dir_with, dir_at, version_head_at, version_at, tagged_as, tagged_at, object_at, blob_bytes, most_text, Gives, Answers}
 use Rattle.ms_object.proofs.FieldLaws.{bind_some, some_is, given_is, both, ended, IsBytes-rest, Takes-then, Takes-all, All-cons, All-first, All-rest, names_take, names_again}
 use Rattle.ms_object.proofs.RowLaws.{IsRowGrammar, RowFits, SizedRowFits, row_grammar, sized_row_grammar, rows_are_read, rows_are_read_again}

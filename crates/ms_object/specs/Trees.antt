@@ -1,6 +1,6 @@
 -- The tree of files below a directory of a store, and what a walk through it meets in the order of the rows.
 use Rattle.std.specs.Prelude.{◌≡◌, ◌↔◌, ℕ, zero, suc, ◌+◌, ◌-◌, ◌==◌, nat_lt, min, List, [], ◌∷◌, ◌++◌, length, map, flat_map, Contains, Option, Some, None, Result, Ok, Err, if◌then◌else◌}
-use Rattle.ms_base.specs.declared.limits.TheConstants.{FILES, PATH_BYTES, TOTAL_BYTES}
+use Rattle.ms_base.specs.declared.limits.TheConstants.{FILES, LEVELS, PATH_BYTES, TOTAL_BYTES}
 use Rattle.ms_base.specs.declared.names.Name.{Name}
 use Rattle.ms_base.specs.declared.names.Quantity.TheVariants as quantities
 use Rattle.ms_object.specs.declared.fault.GatherError.{GatherError}
@@ -141,15 +141,15 @@ met_by_kind format walk store path name kinds.File = met_file path (file_named f
 met_by_kind format walk store path name kinds.Dir = met_below (or_fault (object_named store name) (inner_rows_of format name)) (walk (path ++ 47 ∷ []))
 
 -- What a walk meets below the rows of a directory of a format, in their order: `before` begins each path, and paths
--- may have so many parts more. A path of 65 parts passes the limit.
+-- may have so many parts more. A path of more passes the limit.
 unfoldable pub walk_rows : Format → ℕ → Texts → List ℕ → List SizedRow → List Met
-walk_rows format zero store before rows = flat_map (λ row. if_short (before ++ row.label) (Err (faults.Limit quantities.Levels 65) ∷ [])) rows
+walk_rows format zero store before rows = flat_map (λ row. if_short (before ++ row.label) (Err (faults.Limit quantities.Levels (LEVELS + 1)) ∷ [])) rows
 walk_rows format (suc left) store before rows =
     flat_map (λ row. with_size format row (if_short (before ++ row.label) (met_by_kind format (walk_rows format left store) store (before ++ row.label) row.name row.kind))) rows
 
 -- what a walk meets below the root of that name: all that it looks at is of the root's format
 unfoldable pub walk : Texts → Name → List Met
-walk store root = met_below (or_fault (object_named store root) (top_of root)) (λ top. walk_rows top.0 64 store [] top.1)
+walk store root = met_below (or_fault (object_named store root) (top_of root)) (λ top. walk_rows top.0 LEVELS store [] top.1)
 
 -- the first fault after so many files with so many bytes together: what was met, or a limit that a file passes
 abbrev pub first_fault : ℕ → ℕ → List Met → Option GatherError

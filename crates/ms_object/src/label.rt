@@ -4,8 +4,10 @@ ghost use Rattle.std.specs.Prelude.{◌≡◌, ◌↔◌, IsTrue};
 ghost use Rattle.ms_object.specs.Labels.{IsLabel, has_separator as separated, is_dots as dots, is_label as passes};
 ghost use Rattle.std.specs.Str.{is_utf8};
 
+use ms_base::limits::PART_BYTES;
+
 /// The greatest number of bytes.
-const MOST_LABEL: usize = 200;
+const MOST_LABEL: usize = PART_BYTES as usize;
 
 /// Whether the bytes may be a part of a path: UTF-8 of 1 to 200 bytes, neither `.` nor `..`, without `/` and NUL.
 #[tactic(auto, unfolding(crate::specs::Labels::is_label))]

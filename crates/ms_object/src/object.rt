@@ -1,9 +1,10 @@
 //! Objects, and the texts that spell them.
 
-ghost use Rattle.std.specs.Prelude.{◌≡◌, ◌≤◌, ◌⊎◌, ◌==◌, ◌&&◌, nat_le, ℕ, List, [], Some, Ok, Err, IfOk, length, option_map};
-ghost use Rattle.std.specs.Bool.{OnTrue};
+ghost use Rattle.std.specs.Prelude.{◌≡◌, ◌≤◌, ◌⊎◌, ◌==◌, ◌&&◌, nat_le, ℕ, List, [], Some, None, Ok, Err, IfOk, length, option_map};
+ghost use Rattle.std.specs.Bool.{OnTrue, OnFalse};
 ghost use Rattle.ms_base.specs.Fields.{IsBytes};
 ghost use Rattle.ms_object.specs.declared.fault.ObjectError.TheVariants as errors;
+ghost use Rattle.ms_object.specs.declared.format.Format.{Format};
 ghost use Rattle.ms_object.specs.declared.object.Object.{Object};
 ghost use Rattle.ms_object.specs.Objects.{IsObject, Spells, blob_size, blob_tag, children_of, least_blob, object_text};
 ghost use Rattle.ms_object.specs.Reading.{Answers, blob_bytes, object_at, most_text};
@@ -111,7 +112,9 @@ pub fn parse(alloc: Global, text: &[u8]) -> Result<Object, ObjectError>
 
 /// The names in an object, but for a version's parents.
 pub fn children(alloc: Global, text: &[u8]) -> Result<Names, ObjectError>
-    ensures { Answers text.now (option_map children_of (object_at text.now)) result }
+    ensures exact { Answers text.now (option_map children_of (object_at text.now)) result }
+    // A blob's takes no memory.
+    ensures blob { (format : Format) (bytes : List ℕ) → blob_bytes format (object_at text.now) ≡ Some bytes → result ≡ Ok [] }
 {
     if is_blob(text) {
         return Ok(Items::new(alloc));
@@ -121,7 +124,8 @@ pub fn children(alloc: Global, text: &[u8]) -> Result<Names, ObjectError>
 
 /// Whether the text is a blob, of either format.
 fn is_blob(text: &[u8]) -> bool
-    ensures { OnTrue result ((length text.now ≤ most_text) × (option_map children_of (object_at text.now) ≡ Some [])) }
+    ensures yes { OnTrue result ((length text.now ≤ most_text) × (option_map children_of (object_at text.now) ≡ Some [])) }
+    ensures no { OnFalse result ((format : Format) → blob_bytes format (object_at text.now) ≡ None) }
 {
     one_spelling();
     let first = blob_in(Format::One, text).is_some();

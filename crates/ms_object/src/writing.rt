@@ -5,6 +5,7 @@ ghost use Rattle.ms_base.specs.Fields.{Grows};
 ghost use Rattle.ms_object.specs.declared.format.Format.TheVariants as formats;
 ghost use Rattle.ms_object.specs.declared.object.Object.TheVariants as objects;
 ghost use Rattle.ms_object.specs.Objects.{AreNames, AreSizes, IsBlob, IsObject, IsDir, IsFile, IsSizedDir, IsVersion, blob_tag, blob_text, file_tag, file_text, front_text, names_of, names_text, object_text, row_text, sized_names_of, sized_row_text, version_tag, version_text};
+ghost use Rattle.ms_base.specs.declared.limits.TheConstants.{PART_BYTES};
 
 use crate::format::Format;
 use crate::object::{Kind, Row, Rows, SizedRow, SizedRows};
@@ -196,7 +197,7 @@ fn push_file(format: Format, size: u64, blobs: &[Name], out: &mut Vec<u8>) -> Re
 
 /// Kind, length of the label, label.
 fn push_front(kind: Kind, label: &[u8], out: &mut Vec<u8>) -> Result<(), NoMemory>
-    requires { length label.now ≤ 200 }
+    requires { length label.now ≤ PART_BYTES }
     ensures ok { OnOk result (out.new.items ≡ out.old.items ++ front_text kind label.now) }
     ensures grows { Grows out.old.items out.new.items }
 {
@@ -209,7 +210,7 @@ fn push_front(kind: Kind, label: &[u8], out: &mut Vec<u8>) -> Result<(), NoMemor
 }
 
 fn push_row(row: &Row, out: &mut Vec<u8>) -> Result<(), NoMemory>
-    requires { length row.now.label ≤ 200 }
+    requires { length row.now.label ≤ PART_BYTES }
     ensures ok { OnOk result (out.new.items ≡ out.old.items ++ row_text row.now) }
     ensures grows { Grows out.old.items out.new.items }
     ensures name { OnOk result (length row.now.name.0 ≡ 32) }
@@ -219,7 +220,7 @@ fn push_row(row: &Row, out: &mut Vec<u8>) -> Result<(), NoMemory>
 }
 
 fn push_sized_row(row: &SizedRow, out: &mut Vec<u8>) -> Result<(), NoMemory>
-    requires { length row.now.label ≤ 200 }
+    requires { length row.now.label ≤ PART_BYTES }
     ensures ok { OnOk result (out.new.items ≡ out.old.items ++ sized_row_text row.now) }
     ensures grows { Grows out.old.items out.new.items }
     ensures fits { OnOk result ((length row.now.name.0 ≡ 32) × (row.now.size < 2 ^ 64)) }

@@ -1,6 +1,7 @@
 -- A configuration of which some lines were read.
 use Rattle.std.specs.Prelude.{◌≡◌, ℕ, ◌+◌, ◌/◌, ◌^◌, ◌<◌, ◌≤◌, ◌==◌, ◌&&◌, not, nat_le, nat_lt, bytes_eq, Bool, List, [], ◌∷◌, ◌++◌, length, map, slice_get, Option, Some, None, if◌then◌else◌}
 use Rattle.std.specs.List.{list_any}
+use Rattle.ms_base.specs.declared.limits.TheConstants.{CLIENTS, COPIES, SERVICES}
 use Rattle.ms_plan.specs.declared.config_line.Line.{Line}
 use Rattle.ms_plan.specs.declared.config_line.Line.TheVariants as forms
 use Rattle.ms_plan.specs.declared.config_line.ServiceLine.{ServiceLine}
@@ -13,26 +14,26 @@ pub record DraftView : Type 0 where
   pub services : List ServiceLine
   pub clients : List (List ℕ)
 
--- of line 1: 1 to 16 replicas, and a unit
+-- of line 1: as many replicas as there may be services, at least one, and a unit
 abbrev pub begun : ℕ → ℕ → Option DraftView
 begun replicas unit =
-    if nat_le 1 replicas && nat_le replicas 16 && nat_le 1 unit then Some (record { replicas = replicas; unit = unit; services = []; clients = [] }) else None
+    if nat_le 1 replicas && nat_le replicas SERVICES && nat_le 1 unit then Some (record { replicas = replicas; unit = unit; services = []; clients = [] }) else None
 
--- the capacity is 1 to 16 units, rounded down
+-- the capacity is a number of units, rounded down, that there may be of copies
 abbrev pub has_copies : ℕ → ℕ → Bool
-has_copies unit capacity = nat_le 1 (capacity / unit) && nat_le (capacity / unit) 16
+has_copies unit capacity = nat_le 1 (capacity / unit) && nat_le (capacity / unit) COPIES
 
--- a service more, before the clients: at most 16, with 1 to 16 copies, and a label that no service has
+-- a service more, where there is room, before the clients: with copies, and a label that no service has
 abbrev pub with_service : DraftView → ServiceLine → Option DraftView
 with_service draft service =
-    if (length draft.clients == 0) && nat_lt (length draft.services) 16 && has_copies draft.unit service.capacity
+    if (length draft.clients == 0) && nat_lt (length draft.services) SERVICES && has_copies draft.unit service.capacity
     && not (list_any (λ (s : ServiceLine). bytes_eq s.label service.label) draft.services)
     then Some (record draft { services = draft.services ++ service ∷ [] }) else None
 
--- a client more, behind the services, of which there are as many as replicas: at most 16, with a label that no client has
+-- a client more, behind the services, of which there are as many as replicas, where there is room: with a label that no client has
 abbrev pub with_client : DraftView → List ℕ → Option DraftView
 with_client draft label =
-    if nat_le draft.replicas (length draft.services) && nat_lt (length draft.clients) 16 && not (list_any (λ l. bytes_eq l label) draft.clients)
+    if nat_le draft.replicas (length draft.services) && nat_lt (length draft.clients) CLIENTS && not (list_any (λ l. bytes_eq l label) draft.clients)
     then Some (record draft { clients = draft.clients ++ label ∷ [] }) else None
 
 -- on with a line, where it is right in its place
@@ -52,18 +53,18 @@ pub record AreLabels (labels : List (List ℕ)) : Type 0 where
   pub form : (i : ℕ) (label : List ℕ) → slice_get labels i ≡ Some label → IsClientLabel label
   pub differ : (i j : ℕ) (label : List ℕ) → slice_get labels i ≡ Some label → slice_get labels j ≡ Some label → i ≡ j
 
--- a capacity of 1 to 16 units, rounded down
+-- a capacity of so many units, rounded down, as there may be copies
 pub record IsCapacity (unit capacity : ℕ) : Type 0 where
   pub some_copies : 1 ≤ capacity / unit
-  pub few_copies : capacity / unit ≤ 16
+  pub few_copies : capacity / unit ≤ COPIES
 
 -- what holds of what was read
 pub record IsDraft (draft : DraftView) : Type 0 where
   pub some_replicas : 1 ≤ draft.replicas
-  pub few_replicas : draft.replicas ≤ 16
+  pub few_replicas : draft.replicas ≤ SERVICES
   pub some_unit : 1 ≤ draft.unit
-  pub few_services : length draft.services ≤ 16
-  pub few_clients : length draft.clients ≤ 16
+  pub few_services : length draft.services ≤ SERVICES
+  pub few_clients : length draft.clients ≤ CLIENTS
   pub capacities : (i : ℕ) (service : ServiceLine) → slice_get draft.services i ≡ Some service → IsCapacity draft.unit service.capacity
   pub service_labels : AreLabels (labels_of draft.services)
   pub client_labels : AreLabels draft.clients

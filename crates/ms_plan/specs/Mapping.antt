@@ -10,6 +10,7 @@ use Rattle.ms_base.specs.declared.names.Name.{Name}
 use Rattle.ms_base.specs.declared.names.ServiceId.{ServiceId}
 use Rattle.ms_record.specs.declared.plan.PlanRow.{PlanRow}
 use Rattle.ms_record.specs.Plans.{PlanView}
+use Rattle.ms_plan.specs.declared.table.TheConstants.{SLOTS}
 
 -- a service and one of its copies, which are counted from 0
 pub record ServiceCopy : Type 0 where
@@ -59,7 +60,7 @@ order_at plan slot = firsts (map (λ c. c.service) (sorted (compare_at slot) (co
 
 -- the slot of an object: the first two bytes of its name, as a big-endian number, modulo 1,024
 abbrev pub slot_of : Name → ℕ
-slot_of name = (256 * slice_index name.0 0 + slice_index name.0 1) % 1024
+slot_of name = (256 * slice_index name.0 0 + slice_index name.0 1) % SLOTS
 
 -- the order in which the services of a plan are to hold the object of that name
 abbrev pub order_of : PlanView → Name → List ServiceId

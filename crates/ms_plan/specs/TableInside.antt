@@ -3,6 +3,7 @@ use Rattle.std.specs.Prelude.{◌≡◌, ℕ, ◌*◌, ◌<◌, List, length, ta
 use Rattle.md5.specs.Md5.{md5}
 use Rattle.ms_base.specs.declared.names.ServiceId.{ServiceId}
 use Rattle.ms_record.specs.Plans.{PlanView, IsPlan}
+use Rattle.ms_plan.specs.declared.table.TheConstants.{SLOTS}
 use Rattle.ms_plan.specs.declared.table.Table.TheInside.{Inside}
 use Rattle.ms_plan.specs.declared.table.copies.KeyedCopy.{KeyedCopy}
 use Rattle.ms_plan.specs.Mapping.{ServiceCopy, key_text, order_at}
@@ -18,4 +19,4 @@ pub record HoldsOrders (plan : PlanView) (slots : ℕ) (orders : List ServiceId)
 
 pub record IsTable (t : Inside) : Type 0 where
   pub rules : IsPlan t.plan
-  pub orders : HoldsOrders t.plan 1024 t.orders.items
+  pub orders : HoldsOrders t.plan SLOTS t.orders.items

@@ -7,12 +7,13 @@ ghost use Rattle.ms_plan.specs.declared.config_line.ServiceLine.{ServiceLine};
 
 use crate::config_line::{Line, ServiceLine};
 use ms_base::NoMemory;
+use ms_base::limits::{CLIENTS, COPIES, SERVICES};
 use ms_text::Label;
 use std::alloc::Global;
 use std::marker::Model;
 
-/// The most services, clients, replicas and copies of a service.
-pub(crate) const MOST: usize = 16;
+/// The most services, and replicas.
+pub(crate) const MOST: usize = SERVICES as usize;
 
 /// What the lines so far say.
 #[derive(Drop)]
@@ -71,7 +72,7 @@ impl Draft {
         ensures { IfOk result (λ o. o ≡ with_client self label) }
     {
         if (self.replicas as usize) > self.services.len()
-            || self.clients.len() >= MOST
+            || self.clients.len() >= CLIENTS as usize
             || has_label(&self.clients, label.as_str())
         {
             return Ok(None);
@@ -100,7 +101,7 @@ fn has_copies(unit: u64, capacity: u64) -> bool
     ensures { result ≡ fits unit capacity }
 {
     let copies = capacity / unit;
-    copies >= 1 && copies <= MOST as u64
+    copies >= 1 && copies <= COPIES
 }
 
 fn has_service(services: &[ServiceLine], label: &str) -> bool

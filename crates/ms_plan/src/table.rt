@@ -16,7 +16,7 @@ use std::alloc::Global;
 use std::marker::Model;
 
 /// How many slots there are. Objects of one slot have the same order.
-const SLOTS: u32 = 1024;
+pub const SLOTS: u32 = 1024;
 
 /// The orders of a plan's services in all slots, as `docs/PROTOCOL.md`, "Mapping", fixes them.
 #[derive(Drop)]

@@ -32,7 +32,7 @@ within_means what value most h = at_test (nat_lt most value) refl h
     at_test true e h = absurd (err_is_not_ok (errors.Limit what value) (tt {0}) h)
     at_test false e h = grind (arith, nat_tests)
 
-within_fits : (what : Quantity) (value most : ℕ) → value ≤ most → within what value most ≡ Ok (tt {0})
+pub within_fits : (what : Quantity) (value most : ℕ) → value ≤ most → within what value most ≡ Ok (tt {0})
 within_fits what value most h = let fits : nat_lt most value ≡ false = grind (arith, nat_tests) in rw fits refl
 
 -- both of two steps went well

@@ -17,6 +17,8 @@ pub mod Fronts
 pub mod Freeing
 pub mod Treeing
 pub mod OneTree
+pub mod TwoStores
+pub mod AddedLaws
 pub mod Members
 pub mod FirstParts
 pub mod Cutting
@@ -46,3 +48,4 @@ pub mod Building
 pub mod TaggedPaths
 pub mod MergeNames
 pub mod MergeLaws
+pub mod OneMerge

@@ -1,13 +1,18 @@
 -- Lines of a listing: a path that is no text, and the first fault.
-use Rattle.std.proofs.Common.{◌≡◌, ℕ, ◌+◌, Bool, true, false, List, [], ◌∷◌, ◌++◌, length, Option, Some, is_some, Result, Ok, Err, if◌then◌else◌, refl, sym, ◌∙◌, ap, arith}
+use Rattle.std.proofs.Common.{◌≡◌, ℕ, ◌+◌, Bool, true, false, List, [], ◌∷◌, ◌++◌, length, length-append, append_assoc, Option, Some, None, IsSome, is_some, Bor, Result, Ok, Err, if◌then◌else◌, refl, sym, ◌∙◌, ap, arith}
 use Rattle.std.specs.Str.{is_utf8, IsUtf8}
+use Rattle.std.specs.Option.{option_copied}
+use Rattle.std.proofs.lemmas.Bool.{false≢true}
 use Rattle.std.proofs.lemmas.Str.{IsUtf8-from_is_utf8}
+use Rattle.ms_text.specs.Words.{two_words}
 use Rattle.ms_record.specs.declared.refusal.Refusal.{Refusal}
 use Rattle.ms_record.specs.declared.refusal.Refusal.TheVariants as refusals
 use Rattle.ms_record.specs.declared.refusal.Place.TheVariants as places
 use Rattle.ms_tree.specs.Limits.{on_ok}
-use Rattle.ms_tree.specs.Files.{FileList, text_at, added}
-use Rattle.ms_tree.specs.Listings.{row_at, with_row, with_line, with_lines, or_wrong, IsFirstFault}
+use Rattle.ms_tree.specs.Files.{FileList, text_at, added, IsFiles}
+use Rattle.ms_tree.proofs.FileLaws.{length-with_file}
+use Rattle.ms_tree.proofs.AddedLaws.{added_files}
+use Rattle.ms_tree.specs.Listings.{row_at, with_row, with_line, with_lines, or_wrong, IsFirstFault, RanOut}
 
 -- a path that is no text makes the line a wrong one
 pub no_text : (line : ℕ) (files : FileList) (text : List ℕ) (o : Option (List ℕ × List ℕ)) (path content : List ℕ) → o ≡ row_at text → o ≡ Some (path, content) → ¬ IsUtf8 path
@@ -55,3 +60,60 @@ fault_from from start (text ∷ texts) fault h = fault_on from start text texts 
 
 pub first_fault : (texts : List (List ℕ)) (fault : Refusal) → with_lines 1 [] texts ≡ Err fault → IsFirstFault texts fault
 first_fault texts fault h = let w = fault_from 1 [] texts fault h in record { front = w.front; text = w.text; rest = w.rest; all = w.all; so_far = w.so_far; goes_on = w.goes_on; here = w.here }
+
+pub none_found : (found : Option (Bor (List ℕ))) (text : Option (List ℕ)) → option_copied found ≡ text → false ≡ is_some found → text ≡ None
+none_found None text e none = sym e
+none_found (Some bytes) text e none = absurd (false≢true none)
+
+-- a file at a path where none was is one more
+pub one_file_more : (files new : FileList) (path text : List ℕ) → IsFiles files → text_at files path ≡ None → added files path text ≡ Ok new → length new ≡ length files + 1
+one_file_more files new path text kept none h =
+    let is = added_files files new path text kept h in
+    ap length is.0 ∙ length-with_file path text files kept.rising ∙ rw none refl
+
+-- ---- what was read
+
+-- the lines before these are right, and each gave one file
+pub record HasRead (texts rest : List (List ℕ)) (files : FileList) : Type 0 where
+  pub front : List (List ℕ)
+  pub all : texts ≡ front ++ rest
+  pub goes_on : with_lines 1 [] front ≡ Ok files
+  pub count : length files ≡ length front
+
+with_lines-append : (from : ℕ) (start next : FileList) (front more : List (List ℕ)) → with_lines from start front ≡ Ok next → with_lines from start (front ++ more) ≡ with_lines (from + length front) next more
+with_lines-append from start next [] more h =
+    let same : start ≡ next = cc in
+    let place : from ≡ from + 0 = omega arith in
+    ap (λ (fs : FileList). with_lines from fs more) same ∙ ap (λ (n : ℕ). with_lines n next more) place
+with_lines-append from start next (text ∷ front) more h = by (with_line from start text) h (λ mid. with_lines-append (from + 1) mid next front more)
+  where
+    by : (r : Result FileList Refusal) → on_ok r (λ mid. with_lines (from + 1) mid front) ≡ Ok next
+        → ((mid : FileList) → with_lines (from + 1) mid front ≡ Ok next → with_lines (from + 1) mid (front ++ more) ≡ with_lines (from + 1 + length front) next more)
+        → on_ok r (λ mid. with_lines (from + 1) mid (front ++ more)) ≡ with_lines (from + length (text ∷ front)) next more
+    by (Err e) h rest = absurd cc
+    by (Ok mid) h rest = let place : from + 1 + length front ≡ from + length (text ∷ front) = omega arith in rest mid h ∙ ap (λ (n : ℕ). with_lines n next more) place
+
+-- one line more
+pub has_read_more : (files new : FileList) (line : ℕ) (text : List ℕ) (all texts rest : List (List ℕ)) → texts ≡ text ∷ rest → line ≡ length files + 1 → with_line line files text ≡ Ok new → length new ≡ length files + 1
+    → HasRead all texts files → HasRead all rest new
+has_read_more files new line text all texts rest split place gives more read =
+    let same : 1 + length read.front ≡ line = omega (arith, read.count, place) in
+    record {
+      front = read.front ++ text ∷ [];
+      all = read.all ∙ ap (λ (ts : List (List ℕ)). read.front ++ ts) split ∙ sym (append_assoc read.front (text ∷ []) rest);
+      goes_on = with_lines-append 1 [] files read.front (text ∷ []) read.goes_on ∙ ap (λ (n : ℕ). with_lines n files (text ∷ [])) same ∙ rw gives refl;
+      count = omega (arith, more, read.count, length-append read.front (text ∷ []));
+    }
+
+pub ran_out : (texts rest : List (List ℕ)) (text : List ℕ) (files : FileList) → HasRead texts (text ∷ rest) files → IsSome (two_words text) → RanOut texts
+ran_out texts rest text files read words = record { front = read.front; text = text; rest = rest; all = read.all; so_far = files; goes_on = read.goes_on; words = words }
+
+-- what is left of the text, behind a line that is right
+pub lines_go_on : (files new : FileList) (line : ℕ) (text : List ℕ) (texts rest : List (List ℕ)) (whole : Result FileList Refusal) → texts ≡ text ∷ rest → line ≡ length files + 1 → with_line line files text ≡ Ok new
+    → length new ≡ length files + 1 → with_lines (length files + 1) files texts ≡ whole → with_lines (length new + 1) new rest ≡ whole
+lines_go_on files new line text texts rest whole split place gives more same =
+    let here : with_line (length files + 1) files text ≡ Ok new = ap (λ (n : ℕ). with_line n files text) (sym place) ∙ gives in
+    let next : length new + 1 ≡ length files + 1 + 1 = omega (arith, more) in
+    ap (λ (n : ℕ). with_lines n new rest) next
+    ∙ sym (ap (λ (r : Result FileList Refusal). on_ok r (λ fs. with_lines (length files + 1 + 1) fs rest)) here)
+    ∙ ap (λ (ts : List (List ℕ)). with_lines (length files + 1) files ts) (sym split) ∙ same

@@ -22,7 +22,7 @@ use Rattle.ms_base.specs.declared.names.Quantity.{Quantity}
 use Rattle.ms_base.specs.declared.names.Quantity.TheVariants as quantities
 use Rattle.ms_tree.specs.Paths.{parts_of, long_part, is_directory_of, IsDirectoryOf}
 use Rattle.ms_tree.specs.Files.{FileList, text_at, total_of, IsFile, IsFiles}
-use Rattle.ms_tree.specs.Merging.{Side, is_same, standing, is_conflict, tagged, conflicts, directories, AreTagged, MayMerge, IsMerge, names_of, IsFirstLong, KeepsLimits, PassesLimit, KeepsChanges}
+use Rattle.ms_tree.specs.Merging.{Side, is_same, standing, is_conflict, tagged, conflicts, directories, MayMerge, IsMerge, names_of, IsFirstLong, KeepsLimits, PassesLimit, KeepsChanges}
 use Rattle.ms_tree.proofs.PathLaws.{directory_Decides}
 use Rattle.ms_tree.proofs.FileLaws.{none_at, lookup_by_order}
 use Rattle.ms_tree.proofs.ClashLaws.{some_at}
@@ -30,7 +30,7 @@ use Rattle.ms_tree.proofs.KeptLaws.{all_short}
 use Rattle.ms_tree.proofs.Members.{in_here, in_later, all_from, filter_from, filter_has, map_has}
 use Rattle.ms_tree.proofs.OneTree.{rising_same}
 use Rattle.ms_tree.proofs.TaggedPaths.{IsRow, row_of_file, tagged_row, directory_of_tagged}
-use Rattle.ms_tree.proofs.MergeNames.{IsFresh, HasFile, has_file, has_name, one_naming}
+use Rattle.ms_tree.proofs.MergeNames.{IsFresh, HasFile, has_file, has_name}
 
 -- ---- sides
 
@@ -411,19 +411,3 @@ module _ {base ours theirs : FileList} {tag : List ℕ} (may : MayMerge base our
     merge_exact whole quantities.Path value passed = no_long length 1024 value whole (λ path text f. f.path_short) passed.2
     merge_exact whole quantities.Part value passed = no_long (λ name. long_part (parts_of name)) 200 value whole (λ path text f. short_parts (parts_of path) f.parts_short) passed.3
     merge_exact whole other value passed = passed
-
--- ---- there is one merge
-
-pub one_merge : (base ours theirs : FileList) (tag : List ℕ) (files others : FileList) → IsMerge base ours theirs tag files → IsMerge base ours theirs tag others → files ≡ others
-one_merge base ours theirs tag files others a b =
-    let doubled : a.doubled ≡ b.doubled = one_naming base ours theirs tag (conflicts base ours theirs) a.doubled b.doubled [] a.are_doubled b.are_doubled in
-    let settled : a.settled ≡ b.settled =
-    same_texts a.settled b.settled a.settled_rise b.settled_rise (λ path. a.are_settled path ∙ ap (λ (l : FileList). option_or (text_at l path) (standing (text_at base path) (text_at ours path) (text_at theirs path))) doubled ∙ sym (b.are_settled path)) in
-    let moved : a.moved ≡ b.moved =
-    one_naming base ours theirs tag (directories a.settled) a.moved b.moved (keys_of a.doubled) a.are_moved
-    (subst (λ (l : FileList). AreTagged base ours theirs tag (keys_of l) (directories a.settled) b.moved) (sym doubled) (subst (λ (l : FileList). AreTagged base ours theirs tag (keys_of b.doubled) (directories l) b.moved) (sym settled) b.are_moved)) in
-    same_texts files others a.rise b.rise
-    (λ path. a.are_files path
-    ∙ ap (λ (l : FileList). option_or (text_at l path) (if is_some (text_at (directories a.settled) path) then None else text_at a.settled path)) moved
-    ∙ ap (λ (l : FileList). option_or (text_at b.moved path) (if is_some (text_at (directories l) path) then None else text_at l path)) settled
-    ∙ sym (b.are_files path))

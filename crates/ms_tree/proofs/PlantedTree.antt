@@ -16,7 +16,6 @@ use Rattle.ms_base.specs.declared.names.Name.{Name}
 use Rattle.ms_object.specs.declared.fault.GatherError.{GatherError}
 use Rattle.ms_object.specs.declared.object.Object.{Object}
 use Rattle.ms_object.specs.declared.format.Format.TheVariants as formats
-use Rattle.ms_object.specs.declared.object.Row.{Row}
 use Rattle.ms_object.specs.declared.object.SizedRow.{SizedRow}
 use Rattle.ms_object.specs.Labels.{IsLabel}
 use Rattle.ms_object.specs.Objects.{AreNames, AreSizes, IsObject, IsSizedDir, most_file, object_text, sized_names_of}

@@ -1,7 +1,7 @@
 -- What a walk meets, row by row, and where the paths that it meets stand.
 use Rattle.std.proofs.Common.{◌≡◌, ℕ, zero, suc, ◌-◌, ◌<◌, ◌≤◌, Bool, true, false, cond, ltb, nat_lt, List, [], ◌∷◌, ◌++◌, length, take, Contains, Result, Ok, Err, refl, sym, ap, subst, ◌∙◌, append_assoc, append-nil, arith, inl, inr}
 use Rattle.std.specs.List.{flat_map}
-use Rattle.std.specs.Prelude.{◌==◌, ◌+◌, Some, None, OnOk, IfErr}
+use Rattle.std.specs.Prelude.{◌==◌, None, OnOk, IfErr}
 use Rattle.ms_object.specs.declared.format.Format.TheVariants as formats
 use Rattle.std.proofs.lemmas.Bool.{lt-ltb, le-ltb}
 use Rattle.std.proofs.lemmas.List.{take_all}

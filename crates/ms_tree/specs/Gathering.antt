@@ -1,5 +1,6 @@
 -- Gathering the files of a tree: what is met at one row, the files so far, and what a walk goes on with.
 use Rattle.std.specs.Prelude.{◌≡◌, ◌≢◌, ◌↔◌, ◌⊎◌, ℕ, zero, suc, ◌+◌, ◌<◌, ◌≤◌, true, List, [], ◌∷◌, ◌++◌, length, slice_index, flat_map, All, Contains, Some, Result, Ok, Err}
+use Rattle.ms_base.specs.declared.limits.TheConstants.{LEVELS, PART_BYTES, PATH_BYTES}
 use Rattle.ms_base.specs.declared.names.Quantity.TheVariants as quantities
 use Rattle.ms_object.specs.declared.fault.GatherError.{GatherError}
 use Rattle.ms_object.specs.declared.fault.GatherError.TheVariants as faults
@@ -25,18 +26,18 @@ pub record IsFront (left : ℕ) (before : List ℕ) : Type 0 where
   pub labels : List (List ℕ)
   pub spelled : before ≡ flat_map (λ label. label ++ 47 ∷ []) labels
   pub each : All IsLabel labels
-  pub levels : length labels + left ≡ 64
+  pub levels : length labels + left ≡ LEVELS
 
 -- a path that files may have, whatever its text
 pub record IsFilePath (path : List ℕ) : Type 0 where
   pub path_is : is_path path ≡ true
-  pub short : length path ≤ 1024
-  pub parts_short : long_part (parts_of path) ≤ 200
-  pub levels : length (parts_of path) ≤ 64
+  pub short : length path ≤ PATH_BYTES
+  pub parts_short : long_part (parts_of path) ≤ PART_BYTES
+  pub levels : length (parts_of path) ≤ LEVELS
 
 -- what a walk meets at one row, before its size is judged
 unfoldable pub row_below : Format → ℕ → Texts → List ℕ → SizedRow → List Met
-row_below format zero store before row = if_short (before ++ row.label) (Err (faults.Limit quantities.Levels 65) ∷ [])
+row_below format zero store before row = if_short (before ++ row.label) (Err (faults.Limit quantities.Levels (LEVELS + 1)) ∷ [])
 row_below format (suc left) store before row = if_short (before ++ row.label) (met_by_kind format (walk_rows format left store) store (before ++ row.label) row.name row.kind)
 
 -- what a walk meets at one row

@@ -3,9 +3,11 @@ pub mod Limits
 pub mod Files
 pub mod FilesInside
 pub mod Listings
+pub mod Stores
 pub mod Gathering
 pub mod Planting
 pub mod Folders
 pub mod Merging
+pub mod MergeLaws
 pub mod DraftFiles
 pub mod DraftInside

@@ -1,5 +1,5 @@
 -- The grammar of a listing.
-use Rattle.std.specs.Prelude.{◌≡◌, ℕ, ◌+◌, List, [], ◌∷◌, ◌++◌, length, is_some, Option, Some, None, Result, Ok, Err, if◌then◌else◌}
+use Rattle.std.specs.Prelude.{◌≡◌, ℕ, ◌+◌, List, [], ◌∷◌, ◌++◌, length, is_some, Option, IsSome, Some, None, Result, Ok, Err, if◌then◌else◌}
 use Rattle.ms_base.specs.Options.{◌>>=◌}
 use Rattle.ms_record.specs.declared.refusal.Refusal.{Refusal}
 use Rattle.ms_record.specs.declared.refusal.Refusal.TheVariants as refusals
@@ -57,6 +57,16 @@ pub record IsFirstFault (texts : List (List ℕ)) (fault : Refusal) : Type 0 whe
   pub so_far : FileList
   pub goes_on : with_lines 1 [] front ≡ Ok so_far
   pub here : with_line (1 + length front) so_far text ≡ Err fault
+
+-- memory ran out at a line of two words, behind lines that are right: no fault before it is hidden
+pub record RanOut (texts : List (List ℕ)) : Type 0 where
+  pub front : List (List ℕ)
+  pub text : List ℕ
+  pub rest : List (List ℕ)
+  pub all : texts ≡ front ++ text ∷ rest
+  pub so_far : FileList
+  pub goes_on : with_lines 1 [] front ≡ Ok so_far
+  pub words : IsSome (two_words text)
 
 -- that answer comes, or no memory
 abbrev pub ReadsListing : Result FileList Refusal → Result FileList Refusal → Type 0

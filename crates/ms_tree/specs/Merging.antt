@@ -1,5 +1,5 @@
 -- The merge of base, ours and theirs with a tag, by single paths.
-use Rattle.std.specs.Prelude.{◌≡◌, ◌≢◌, ◌⊎◌, ℕ, zero, suc, ◌+◌, ◌<◌, ◌≤◌, ◌||◌, ◌&&◌, Bool, true, false, not, bytes_eq, nat_lt, List, [], ◌∷◌, ◌++◌, length, take, filter, find, All, Option, Some, None, is_some, slice_get, Result, Ok, Err, if◌then◌else◌}
+use Rattle.std.specs.Prelude.{◌≡◌, ◌≢◌, ◌⊎◌, ℕ, zero, suc, ◌+◌, ◌<◌, ◌≤◌, ◌||◌, ◌&&◌, Bool, true, false, not, bytes_eq, nat_lt, List, [], ◌∷◌, ◌++◌, length, take, filter, find, All, Option, Some, None, is_some, Result, Ok, Err, if◌then◌else◌}
 use Rattle.std.specs.Fmt.{decimal}
 use Rattle.std.specs.Ordering.{nat_cmp}
 use Rattle.std.specs.Cmp.Lexicographic.{slice_cmp}
@@ -7,6 +7,7 @@ use Rattle.std.specs.List.{list_any}
 use Rattle.std.specs.List.Sorted.{IsStrictlySortedBy}
 use Rattle.std.specs.Map.{keys_of}
 use Rattle.std.specs.Option.{option_or}
+use Rattle.ms_base.specs.declared.limits.TheConstants.{FILES, PART_BYTES, PATH_BYTES, TOTAL_BYTES}
 use Rattle.ms_base.specs.declared.names.Quantity.{Quantity}
 use Rattle.ms_base.specs.declared.names.Quantity.TheVariants as quantities
 use Rattle.ms_record.specs.declared.refusal.Refusal.{Refusal}
@@ -109,9 +110,9 @@ IsMergedAll base ours (theirs ∷ more) tag files = (next : FileList) × IsMerge
 pub record IsFirstPast (files : FileList) (sum : ℕ) : Type 0 where
   pub place : ℕ
   pub there : place < length files
-  pub before : total_of (take place files) ≤ 1073741824
+  pub before : total_of (take place files) ≤ TOTAL_BYTES
   pub is : sum ≡ total_of (take (place + 1) files)
-  pub past : 1073741824 < sum
+  pub past : TOTAL_BYTES < sum
 
 -- the first of the names for which the length is above the limit has this length
 abbrev pub IsFirstLong : (List ℕ → ℕ) → ℕ → List (List ℕ) → ℕ → Type 0
@@ -119,18 +120,18 @@ IsFirstLong measure most names value = (name : List ℕ) × (find (λ name. nat_
 
 -- merged files and names within all limits
 pub record KeepsLimits (files : FileList) (names : List (List ℕ)) : Type 0 where
-  pub few : length files ≤ 100000
-  pub small : total_of files ≤ 1073741824
-  pub short : All (λ name. length name ≤ 1024) names
-  pub parts_short : All (λ name. long_part (parts_of name) ≤ 200) names
+  pub few : length files ≤ FILES
+  pub small : total_of files ≤ TOTAL_BYTES
+  pub short : All (λ name. length name ≤ PATH_BYTES) names
+  pub parts_short : All (λ name. long_part (parts_of name) ≤ PART_BYTES) names
 
 -- the limit that they pass first, and the value that passes it
 abbrev pub PassesLimit : FileList → List (List ℕ) → Quantity → ℕ → Type 0
-PassesLimit files names quantities.Files value = (100000 < length files) × (value ≡ 100001)
-PassesLimit files names quantities.Total value = (length files ≤ 100000) × IsFirstPast files value
-PassesLimit files names quantities.Path value = (length files ≤ 100000) × (total_of files ≤ 1073741824) × IsFirstLong length 1024 names value
+PassesLimit files names quantities.Files value = (FILES < length files) × (value ≡ FILES + 1)
+PassesLimit files names quantities.Total value = (length files ≤ FILES) × IsFirstPast files value
+PassesLimit files names quantities.Path value = (length files ≤ FILES) × (total_of files ≤ TOTAL_BYTES) × IsFirstLong length PATH_BYTES names value
 PassesLimit files names quantities.Part value =
-    (length files ≤ 100000) × (total_of files ≤ 1073741824) × All (λ name. length name ≤ 1024) names × IsFirstLong (λ name. long_part (parts_of name)) 200 names value
+    (length files ≤ FILES) × (total_of files ≤ TOTAL_BYTES) × All (λ name. length name ≤ PATH_BYTES) names × IsFirstLong (λ name. long_part (parts_of name)) PART_BYTES names value
 PassesLimit files names what value = ⊥
 
 -- what a merge answers; NoMemory may always come

@@ -3,6 +3,7 @@ use Rattle.std.specs.Prelude.{◌≡◌, ◌≢◌, ℕ, ◌==◌, ◌&&◌, Boo
 use Rattle.std.specs.List.{slice_split, starts_with, list_any, list_all}
 use Rattle.std.specs.Option.{option_map_or}
 use Rattle.std.specs.Str.{IsUtf8, is_utf8}
+use Rattle.ms_base.specs.declared.limits.TheConstants.{PART_BYTES}
 
 -- the parts between the slashes
 abbrev pub parts_of : List ℕ → List (List ℕ)
@@ -34,6 +35,6 @@ is_path path = is_utf8 path && list_all is_part (parts_of path)
 abbrev pub is_directory_of : List ℕ → List ℕ → Bool
 is_directory_of dir path = starts_with nat_eq path (dir ++ 47 ∷ [])
 
--- the length of the first part of more than 200 bytes, or 0
+-- the length of the first part that is too long, or 0
 abbrev pub long_part : List (List ℕ) → ℕ
-long_part parts = option_map_or length (find (λ part. nat_lt 200 (length part)) parts) 0
+long_part parts = option_map_or length (find (λ part. nat_lt PART_BYTES (length part)) parts) 0

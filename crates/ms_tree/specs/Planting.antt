@@ -4,6 +4,7 @@ use Rattle.std.specs.List.{before_first, list_any}
 use Rattle.std.specs.Ordering.{is_lt, nat_cmp}
 use Rattle.std.specs.Cmp.Lexicographic.{slice_cmp}
 use Rattle.sha2.specs.Sha256.{sha256}
+use Rattle.ms_base.specs.declared.limits.TheConstants.{LEVELS}
 use Rattle.ms_base.specs.declared.names.Name.{Name}
 use Rattle.ms_object.specs.declared.object.Kind.TheVariants as kinds
 use Rattle.ms_object.specs.declared.object.Object.TheVariants as objects
@@ -135,9 +136,9 @@ different (text ∷ texts) = if list_any (bytes_eq text) texts then different te
 
 -- what is planted of these files: the name of the root and all objects; it is their tree, unless two texts collide
 pub record IsPlanted (format : Format) (files : List FileText) (store : Texts) (root : Name) : Type 0 where
-  pub root_is : root ≡ named (directory_text format 64 files)
-  pub objects : HoldsTexts store (object_texts format 64 files)
-  pub tree : Collide (object_texts format 64 files) ⊎ IsTree store root files
+  pub root_is : root ≡ named (directory_text format LEVELS files)
+  pub objects : HoldsTexts store (object_texts format LEVELS files)
+  pub tree : Collide (object_texts format LEVELS files) ⊎ IsTree store root files
 
 -- the first file that has too many bytes for the format
 abbrev pub first_large : Format → List FileText → Option ℕ

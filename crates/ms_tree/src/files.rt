@@ -3,14 +3,17 @@
 ghost use Rattle.std.specs.Prelude.{◌≡◌, ◌+◌, ℕ, List, [], length, map, is_some, Some, None, Ok, IfOk, bytes_eq, if◌then◌else◌, OnErr, OnOk, slice_get, nat_lt, find};
 ghost use Rattle.std.specs.Option.{option_map, option_copied};
 ghost use Rattle.std.specs.List.{list_any};
+ghost use Rattle.std.specs.List.Sorted.{IsStrictlySortedBy};
+ghost use Rattle.std.specs.Map.{keys_of};
+ghost use Rattle.std.specs.Ordering.{nat_cmp};
+ghost use Rattle.std.specs.Cmp.Lexicographic.{slice_cmp};
 ghost use Rattle.ms_tree.specs.Paths.{is_directory_of};
 ghost use Rattle.ms_tree.specs.Files.{text_at, with_file, without, total_of, is_clash, path_limits, size_limits, added, Adds, IsFiles};
 
 use crate::entries::is_above;
-use crate::limits::{
-    FilesError, MOST_FILE, MOST_FILES, MOST_LEVELS, MOST_PART, MOST_PATH, MOST_TOTAL, within,
-};
+use crate::limits::{FilesError, within};
 use crate::path::{is_path, levels, long_part};
+use ms_base::limits::{FILE_2_BYTES, FILES, LEVELS, PART_BYTES, PATH_BYTES, TOTAL_BYTES};
 use ms_base::{Bytes, NoMemory, Quantity};
 use std::alloc::Global;
 use std::collections::BTreeMap;
@@ -72,7 +75,8 @@ impl Files {
         Ok(Files { alloc, map, total })
     }
 
-    /// Puts a text at a path, in place of the one that was there.
+    /// Puts a text at a path, in place of the one that was there. Memory is taken once the path and all
+    /// limits are judged.
     pub fn add(&mut self, path: &str, text: Bytes) -> Result<(), FilesError>
         ensures { Adds self.old self.new (added self.old path.now text) result }
     {
@@ -185,15 +189,15 @@ impl Files {
         ensures { result ≡ size_limits text.now (with_file self.now path.now text.now) }
     {
         let bytes = text.len() as u64;
-        within(Quantity::File, bytes, MOST_FILE)?;
+        within(Quantity::File, bytes, FILE_2_BYTES)?;
         match self.map.get(path) {
             Some(before) => {
                 let others = self.total - before.as_slice().len() as u64;
-                within(Quantity::Total, others + bytes, MOST_TOTAL)
+                within(Quantity::Total, others + bytes, TOTAL_BYTES)
             }
             None => {
-                within(Quantity::Files, self.map.len() as u64 + 1, MOST_FILES)?;
-                within(Quantity::Total, self.total + bytes, MOST_TOTAL)
+                within(Quantity::Files, self.map.len() as u64 + 1, FILES)?;
+                within(Quantity::Total, self.total + bytes, TOTAL_BYTES)
             }
         }
     }
@@ -231,12 +235,13 @@ impl Files {
 fn check_path(path: &str) -> Result<(), FilesError>
     ensures { result ≡ path_limits path.now }
 {
-    within(Quantity::Path, path.len() as u64, MOST_PATH)?;
-    within(Quantity::Part, long_part(path), MOST_PART)?;
-    within(Quantity::Levels, levels(path), MOST_LEVELS)
+    within(Quantity::Path, path.len() as u64, PATH_BYTES)?;
+    within(Quantity::Part, long_part(path), PART_BYTES)?;
+    within(Quantity::Levels, levels(path), LEVELS)
 }
 
-/// What stands at a path after a change, and at the path of a place.
+/// What stands at a path after a change, and at the path of a place; that paths go on rising where a text is put at
+/// one; and that a text may be added exactly where the files with it keep all rules.
 pub fn file_laws()
     ensures put { (files : List (List ℕ × List ℕ)) (path text other : List ℕ)
         → text_at (with_file files path text) other ≡ (if bytes_eq other path then Some text else text_at files other) }
@@ -244,4 +249,10 @@ pub fn file_laws()
         → text_at (without files path) other ≡ (if bytes_eq path other then None else text_at files other) }
     ensures place { (files : List (List ℕ × List ℕ)) (place : ℕ) (path text : List ℕ) → IsFiles files
         → slice_get files place ≡ Some (path, text) → text_at files path ≡ Some text }
+    ensures rises { (files : List (List ℕ × List ℕ)) (path text : List ℕ) → IsStrictlySortedBy (slice_cmp nat_cmp) (keys_of files)
+        → IsStrictlySortedBy (slice_cmp nat_cmp) (keys_of (with_file files path text)) }
+    ensures added { (files new : List (List ℕ × List ℕ)) (path text : List ℕ) → IsFiles files → added files path text ≡ Ok new
+        → (new ≡ with_file files path text) × IsFiles new }
+    ensures fits { (files : List (List ℕ × List ℕ)) (path text : List ℕ) → IsFiles (with_file files path text)
+        → added files path text ≡ Ok (with_file files path text) }
 {}

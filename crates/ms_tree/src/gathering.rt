@@ -1,6 +1,6 @@
 //! Gathering the files of a tree from a store.
 
-ghost use Rattle.std.specs.Prelude.{◌≡◌, ◌⊎◌, ◌≤◌, ◌∷◌, [], ◌++◌, length, map, take, List, Some, Ok, Err, IfOk, IfErr, IfSome, OnOk, option_map};
+ghost use Rattle.std.specs.Prelude.{◌≡◌, ◌⊎◌, ◌≤◌, ◌∷◌, [], ◌++◌, length, map, take, List, Some, None, Ok, Err, IfOk, IfErr, IfSome, OnOk, option_map};
 ghost use Rattle.std.specs.Result.{result_map_both};
 ghost use Rattle.std.specs.Map.{keys_of};
 ghost use Rattle.std.specs.Ordering.{nat_cmp};
@@ -15,11 +15,13 @@ ghost use Rattle.ms_object.specs.Reading.{object_at};
 ghost use Rattle.ms_object.specs.Stores.{text_of};
 ghost use Rattle.ms_object.specs.Trees.{FileText, Texts, IsTree, or_fault, object_named as object_in, object_or_fault, top_of, inner_rows_of, blob_of, blobs_joined, file_in, file_named, met_file, rows_in, first_fault, unsized, walk, walk_rows};
 ghost use Rattle.ms_tree.specs.Files.{IsFiles};
+ghost use Rattle.ms_tree.specs.Stores.{AreNamed, HasAll, StoresCollide};
 ghost use Rattle.ms_tree.specs.Planting.{Collide, IsPlanted, object_texts};
 ghost use Rattle.ms_tree.specs.Gathering.{Gives, IsFront, IsFilePath, IsFree, AreFree, Gathers, SaysSize, StopsAt, row_below, row_met};
 
 use crate::files::Files;
-use crate::limits::{FilesError, MOST_LEVELS, MOST_PATH};
+use crate::limits::FilesError;
+use ms_base::limits::{LEVELS, PATH_BYTES};
 use ms_base::{Bytes, Items, Name, NoMemory, Quantity};
 use ms_object::object::one_spelling;
 use ms_object::{
@@ -33,9 +35,11 @@ use std::alloc::Global;
 pub fn gather(alloc: Global, store: &Store, root: &Name) -> Result<Files, GatherError>
     ensures ok { IfOk result (λ files. IsTree (text_of store.now) root.now files) }
     ensures fault { IfErr result (λ e. (e ≡ faults.NoMemory) ⊎ (first_fault 0 0 (walk (text_of store.now) root.now) ≡ Some e)) }
+    // The root is looked up before memory is taken.
+    ensures missing { text_of store.now root.now.0 ≡ None → result ≡ Err (faults.Missing root.now) }
     // What was planted of files gives them back.
     ensures back { (format : Format) (files : List FileText) → IsFiles files → IsPlanted format files (text_of store.now) root.now
-        → Collide (object_texts format 64 files) ⊎ (result ≡ Ok files) ⊎ (result ≡ Err faults.NoMemory) }
+        → Collide (object_texts format LEVELS files) ⊎ (result ≡ Ok files) ⊎ (result ≡ Err faults.NoMemory) }
 {
     let top = top_named(alloc, store, root)?;
     let mut path = Vec::new(alloc);
@@ -44,7 +48,7 @@ pub fn gather(alloc: Global, store: &Store, root: &Name) -> Result<Files, Gather
         alloc,
         store,
         top.format,
-        MOST_LEVELS,
+        LEVELS,
         top.rows.as_slice(),
         &mut path,
         &mut files,
@@ -123,7 +127,7 @@ fn gather_row(
 {
     path.extend_from_slice(row.label.as_slice())?;
     let length = path.len() as u64;
-    if length > MOST_PATH {
+    if length > PATH_BYTES {
         return Err(GatherError::Limit {
             what: Quantity::Path,
             value: length,
@@ -132,7 +136,7 @@ fn gather_row(
     if left == 0 {
         return Err(GatherError::Limit {
             what: Quantity::Levels,
-            value: MOST_LEVELS + 1,
+            value: LEVELS + 1,
         });
     }
     match row.kind {
@@ -342,6 +346,7 @@ struct Top {
 fn top_named(alloc: Global, store: &Store, name: &Name) -> Result<Top, GatherError>
     ensures exact { Gives (or_fault (object_in (text_of store.now) name.now) (top_of name.now)) (result_map_both (λ top. (top.format, top.rows)) (λ e. e) result) }
     ensures rows { IfOk result (λ top. IsSizedDir top.rows) }
+    ensures missing { text_of store.now name.now.0 ≡ None → result ≡ Err (faults.Missing name.now) }
 {
     match object_named(alloc, store, name)? {
         Object::Dir { rows } => Ok(Top {
@@ -360,6 +365,7 @@ fn top_named(alloc: Global, store: &Store, name: &Name) -> Result<Top, GatherErr
 fn object_named(alloc: Global, store: &Store, name: &Name) -> Result<Object, GatherError>
     ensures exact { Gives (object_in (text_of store.now) name.now) result }
     ensures ranges { IfOk result IsObject }
+    ensures missing { text_of store.now name.now.0 ≡ None → result ≡ Err (faults.Missing name.now) }
 {
     match store.get(name) {
         Some(text) => read_object(alloc, name, text),
@@ -381,8 +387,13 @@ fn read_object(alloc: Global, name: &Name, text: &[u8]) -> Result<Object, Gather
     }
 }
 
-/// A store has one tree below a name.
+/// There is one tree below a name: in one store, and in two that keep texts under their SHA-256, unless texts of them
+/// collide. It stays where a store has more.
 pub fn one_tree()
-    ensures { (store : Texts) (root : Name) (one other : List FileText) → IsStrictlySortedBy (slice_cmp nat_cmp) (keys_of one) → IsStrictlySortedBy (slice_cmp nat_cmp) (keys_of other)
+    ensures one { (store : Texts) (root : Name) (one other : List FileText) → IsStrictlySortedBy (slice_cmp nat_cmp) (keys_of one) → IsStrictlySortedBy (slice_cmp nat_cmp) (keys_of other)
         → IsTree store root one → IsTree store root other → one ≡ other }
+    ensures two { (store beside : Texts) (root : Name) (one other : List FileText) → AreNamed store → AreNamed beside
+        → IsStrictlySortedBy (slice_cmp nat_cmp) (keys_of one) → IsStrictlySortedBy (slice_cmp nat_cmp) (keys_of other)
+        → IsTree store root one → IsTree beside root other → StoresCollide store beside ⊎ (one ≡ other) }
+    ensures stays { (old new : Texts) (root : Name) (files : List FileText) → HasAll new old → IsTree old root files → IsTree new root files }
 {}

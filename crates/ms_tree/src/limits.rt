@@ -1,4 +1,4 @@
-//! The limits on files, and why a file is refused.
+//! Why a file is refused.
 
 ghost use Rattle.std.specs.Prelude.{◌≡◌};
 ghost use Rattle.ms_tree.specs.declared.limits.FilesError.TheVariants as errors;
@@ -6,24 +6,6 @@ ghost use Rattle.ms_tree.specs.Limits.{within};
 
 use ms_base::{NoMemory, Quantity};
 use std::alloc::{AllocError, AllocFailed};
-
-/// The most bytes of a path.
-pub const MOST_PATH: u64 = 1_024;
-
-/// The most bytes of a part of a path.
-pub const MOST_PART: u64 = 200;
-
-/// The most parts of a path.
-pub const MOST_LEVELS: u64 = 64;
-
-/// The most bytes of a file.
-pub const MOST_FILE: u64 = 1_073_741_824;
-
-/// The most files.
-pub const MOST_FILES: u64 = 100_000;
-
-/// The most bytes of all files together.
-pub const MOST_TOTAL: u64 = 1_073_741_824;
 
 /// Why a file is refused.
 #[derive(Clone, Copy, Debug, PartialEq, Eq)]

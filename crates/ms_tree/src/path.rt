@@ -3,7 +3,7 @@
 ghost use Rattle.std.specs.Prelude.{◌≡◌, ℕ, List, true, length, IsTrue, All, ◌↔◌};
 ghost use Rattle.ms_tree.specs.Paths.{parts_of, long_part, is_part, is_path, is_directory_of, IsPart, IsPath, IsDirectoryOf};
 
-use crate::limits::MOST_PART;
+use ms_base::limits::PART_BYTES;
 
 /// Whether the bytes may stand between two slashes.
 fn is_part(part: &[u8]) -> bool
@@ -33,7 +33,7 @@ pub fn long_part(path: &str) -> u64
     ensures { result ≡ long_part (parts_of path.now) }
 {
     let mut parts = path.as_bytes().split(|byte| *byte == b'/');
-    match parts.find(|part| part.len() as u64 > MOST_PART) {
+    match parts.find(|part| part.len() as u64 > PART_BYTES) {
         Some(part) => part.len() as u64,
         None => 0,
     }

@@ -11,6 +11,7 @@ ghost use Rattle.ms_tree.specs.Folders.{AreSmall, IsFolder, Reach, shown_from};
 
 use crate::files::{FileRef, Files};
 use crate::parts::{Part, split_parts};
+use ms_base::limits::LEVELS;
 use ms_base::{Bytes, Items, Name, NoMemory, Quantity};
 use ms_object::object::one_spelling;
 use ms_object::{
@@ -18,9 +19,6 @@ use ms_object::{
     write_dir2, write_file, write_file2,
 };
 use std::alloc::Global;
-
-/// The most parts of a path.
-const MOST_LEVELS: u32 = 64;
 
 /// All objects of some files, and the name of their root directory.
 #[derive(Drop)]
@@ -51,7 +49,7 @@ impl From<NoMemory> for PlantError {
 pub fn plant(alloc: Global, files: &Files, format: Format) -> Result<Planted, PlantError>
     ensures planted { IfOk result (λ p. IsPlanted format files.now (text_of p.objects) p.root) }
     // There are as many objects as different texts, unless two of them have one SHA-256.
-    ensures count { IfOk result (λ p. Collide (object_texts format 64 files.now) ⊎ (length (names_in p.objects) ≡ different (object_texts format 64 files.now))) }
+    ensures count { IfOk result (λ p. Collide (object_texts format LEVELS files.now) ⊎ (length (names_in p.objects) ≡ different (object_texts format LEVELS files.now))) }
     ensures limit { MayPlant format files.now (result_map_both (λ p. tt) (λ e. e) result) }
 {
     if let Some(value) = files.first_above(format.file_bytes()) {
@@ -67,13 +65,13 @@ pub fn plant(alloc: Global, files: &Files, format: Format) -> Result<Planted, Pl
 fn plant_small(alloc: Global, files: &Files, format: Format) -> Result<Planted, NoMemory>
     requires { first_large format files.now ≡ None }
     ensures planted { IfOk result (λ p. IsPlanted format files.now (text_of p.objects) p.root) }
-    ensures count { IfOk result (λ p. Collide (object_texts format 64 files.now) ⊎ (length (names_in p.objects) ≡ different (object_texts format 64 files.now))) }
+    ensures count { IfOk result (λ p. Collide (object_texts format LEVELS files.now) ⊎ (length (names_in p.objects) ≡ different (object_texts format LEVELS files.now))) }
 {
     one_spelling();
     let mut objects = Store::new(alloc);
     match files.rows() {
         Ok(rows) => {
-            let root = plant_dir(alloc, format, rows.as_slice(), 0, MOST_LEVELS, &mut objects)?;
+            let root = plant_dir(alloc, format, rows.as_slice(), 0, LEVELS, &mut objects)?;
             objects.shows();
             Ok(Planted { root, objects })
         }
@@ -89,7 +87,7 @@ fn plant_dir(
     format: Format,
     files: &[FileRef<'_>],
     skip: usize,
-    left: u32,
+    left: u64,
     store: &mut Store,
 ) -> Result<Name, NoMemory>
     requires reach { Reach skip files.now }
@@ -147,7 +145,7 @@ fn plant_part(
     format: Format,
     part: &Part<'_>,
     skip: usize,
-    left: u32,
+    left: u64,
     store: &mut Store,
 ) -> Result<SizedRow, NoMemory>
     requires reach { Reach skip part.now.files.now }

@@ -18,5 +18,5 @@ returns-then-branch c =
 
 pub unreachable-requires : goal.unreachable-requires
 unreachable-requires c =
-    all_tried c.requires.may (keys_of (map drafted c.args.given.now.order.items)) c.args.path.now c.loop-number.number (omega (arith, c.requires.few, length-names c.args.given.now.order.items)) c.loop-number-test.false
+    all_tried c.path_laws.ensures.directory c.requires.may (keys_of (map drafted c.args.given.now.order.items)) c.args.path.now c.loop-number.number (omega (arith, c.requires.few, length-names c.args.given.now.order.items)) c.loop-number-test.false
     c.loop-number.invariant

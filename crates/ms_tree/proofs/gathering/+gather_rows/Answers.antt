@@ -12,11 +12,11 @@ use Rattle.ms_tree.proofs.Fronts.{file_path, front_below}
 use Rattle.ms_tree.proofs.Freeing.{free_below, free_after, free_here, label_here, path_back}
 use Rattle.ms_tree.proofs.gathering.+gather_rows.Goals as goal
 
-pub gather_row-returns-then-length-gt-MOST_PATH-clause-err : goal.gather_row-returns-then-length-gt-MOST_PATH-clause-err
-gather_row-returns-then-length-gt-MOST_PATH-clause-err t c =
+pub gather_row-returns-then-length-gt-PATH_BYTES-clause-err : goal.gather_row-returns-then-length-gt-PATH_BYTES-clause-err
+gather_row-returns-then-length-gt-PATH_BYTES-clause-err t c =
     let path = c.extend_from_slice.new.self.items in
     let is : path ≡ c.args.path.now.items ++ c.args.row.now.label = c.in_ok-extend_from_slice.ensures.items ∙ ap (λ (l : List ℕ). c.args.path.now.items ++ l) c.as_slice.ensures in
-    stops_long c.args.format c.args.files.now c.args.left (text_of c.args.store.now) c.args.path.now.items path c.args.row.now c.len-length.result is (omega (arith, c.extend_from_slice.new.self.ok.0)) c.if-length-gt-MOST_PATH.true
+    stops_long c.args.format c.args.files.now c.args.left (text_of c.args.store.now) c.args.path.now.items path c.args.row.now c.len-length.result is (omega (arith, c.extend_from_slice.new.self.ok.0)) c.if-length-gt-PATH_BYTES.true
 
 pub gather_row-returns-then-left-eq0-clause-err : goal.gather_row-returns-then-left-eq0-clause-err
 gather_row-returns-then-left-eq0-clause-err t c =

@@ -1,5 +1,4 @@
-use Rattle.std.proofs.Common.{sym, ap, ◌∙◌}
-use Rattle.ms_object.specs.Trees.{object_or_fault, of_size}
+use Rattle.std.proofs.Common.{◌∙◌}
 use Rattle.ms_tree.proofs.Named.{blob_wanted, size_right, size_wrong}
 use Rattle.ms_tree.proofs.gathering.read_blob.Goals as goal
 
