@@ -1,25 +1,8 @@
 //! What an acceptor says of the records that it is fed.
 
-use crate::{Acceptor, Ballot, Entry, Record, Verdict, Vote};
-use ms_base::{ClientId, Name};
+use crate::test_values::*;
+use crate::{Acceptor, Ballot, Record, Verdict, Vote};
 use std::test::*;
-
-fn ballot(round: u32, client: u32) -> Ballot {
-    Ballot {
-        round,
-        client: ClientId(client),
-    }
-}
-
-fn push() -> Entry {
-    Entry {
-        before: Name([0; 32]),
-        client: ClientId(0),
-        number: 1,
-        version: Name([17; 32]),
-        plan: None,
-    }
-}
 
 /// A Prepare at position 1.
 fn prepare_of(ballot: Ballot) -> Record {

@@ -36,4 +36,8 @@ mod acceptor_tests;
 #[cfg(test)]
 mod mark_tests;
 #[cfg(test)]
+mod plan_tests;
+#[cfg(test)]
+mod test_values;
+#[cfg(test)]
 mod tests;

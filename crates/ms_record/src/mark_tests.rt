@@ -1,7 +1,7 @@
 //! Texts of marks that were known before.
 
+use crate::test_values::*;
 use crate::{RefMark, parse_mark, write_mark};
-use ms_base::Name;
 use std::alloc::Global;
 use std::test::*;
 
@@ -29,27 +29,19 @@ const NO_MARKS: [(&str, &str); 6] = [
     ("", ""),
 ];
 
-fn bytes(alloc: Global, parts: &[&str]) -> Option<Vec<u8>> {
-    let mut digits = String::new(alloc);
-    for part in parts {
-        digits.push_str(part).ok()?;
-    }
-    hex::decode(alloc, digits.as_bytes()).ok()
-}
-
 fn mark(number: u32, position: u32) -> RefMark {
     RefMark {
         number,
         position,
-        name: Name([17; 32]),
+        name: ONES,
     }
 }
 
 /// Whether the mark is read from these digits and the name.
 fn is_read(alloc: Global, head: &str, number: u32, position: u32) -> bool {
     match bytes(alloc, &[head, NAME]) {
-        Some(text) => parse_mark(&text) == Some(mark(number, position)),
-        None => false,
+        Ok(text) => parse_mark(&text) == Some(mark(number, position)),
+        Err(_) => false,
     }
 }
 
@@ -57,19 +49,19 @@ fn is_read(alloc: Global, head: &str, number: u32, position: u32) -> bool {
 fn is_written(alloc: Global, head: &str, number: u32, position: u32) -> bool {
     let mut out = Vec::new(alloc);
     match bytes(alloc, &[head, NAME]) {
-        Some(text) => {
+        Ok(text) => {
             write_mark(&mark(number, position), &mut out).is_ok()
                 && out.as_slice() == text.as_slice()
         }
-        None => false,
+        Err(_) => false,
     }
 }
 
 /// Whether these digits, with the name between, are no mark.
 fn is_refused(alloc: Global, head: &str, tail: &str) -> bool {
     match bytes(alloc, &[head, NAME, tail]) {
-        Some(text) => parse_mark(&text).is_none(),
-        None => false,
+        Ok(text) => parse_mark(&text).is_none(),
+        Err(_) => false,
     }
 }
 
