@@ -1,2 +1,2 @@
-pub mod FirstSetting
 pub mod WrongLines
+pub mod EventSpelling

@@ -8,26 +8,22 @@ use Rattle.ms_base.specs.declared.names.Quantity.TheVariants as quantities
 use Rattle.ms_world.specs.declared.event.Event.{Event}
 use Rattle.ms_drill.specs.declared.head.Head.{Head}
 use Rattle.ms_drill.specs.declared.drill.Drill.{Drill}
-use Rattle.ms_drill.specs.Lines.{event_at, head_at, client_of}
+use Rattle.ms_drill.specs.Lines.{event_at, head_at}
 use Rattle.ms_object.specs.Objects.{empty_version}
-use Rattle.ms_record.specs.declared.entry.Entry.{Entry}
 use Rattle.ms_record.specs.declared.refusal.Place.TheVariants as places
 use Rattle.ms_record.specs.declared.refusal.Refusal.{Refusal}
 use Rattle.ms_record.specs.declared.refusal.Refusal.TheVariants as refusals
 use Rattle.ms_record.specs.declared.setting.Setting.{Setting}
-use Rattle.ms_record.specs.Settings.{even_plan}
+use Rattle.ms_record.specs.Settings.{even_plan, first_setting}
 use Rattle.ms_text.specs.Lines.{lines_of, read_lines}
 
 -- the name of a text
 abbrev pub named : List ℕ → Name
 named text = record { 0 = sha256 text }
 
--- the genesis, whose member before is the SHA-256 of the head's line
-abbrev pub genesis_of : List ℕ → Head → Entry
-genesis_of line head = record { before = named line; client = client_of 0; number = 0; version = empty_version; plan = Some (even_plan head.services head.replicas) }
-
+-- the setting, before whose genesis the SHA-256 of the head's line stands
 abbrev pub setting_of : List ℕ → Head → Setting
-setting_of line head = record { services = head.services; clients = head.clients; genesis = genesis_of line head }
+setting_of line head = first_setting head.services head.clients (named line) empty_version (even_plan head.services head.replicas)
 
 -- an event more
 abbrev pub event_line : List Event → List ℕ → Option (List Event)

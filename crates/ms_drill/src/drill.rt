@@ -11,9 +11,9 @@ ghost use Rattle.ms_world.specs.Steps.{IsEvent};
 use crate::event::read_event;
 use crate::head::{Head, read_head};
 use ms_base::limits::EVENTS;
-use ms_base::{ClientId, Items, Quantity};
+use ms_base::{Items, Quantity};
 use ms_object::{empty_version, name_of};
-use ms_record::{Entry, Place, Plan, Refusal, Setting, wrong_line};
+use ms_record::{Place, Plan, Refusal, Setting, wrong_line};
 use ms_text::next_line;
 use ms_world::Event;
 use ms_world::world::event_ranges;
@@ -101,16 +101,7 @@ fn setting(line: &[u8], head: Head) -> Setting
     ensures is { result ≡ setting_of line.now head }
     ensures fits { IsSetting result }
 {
-    let genesis = Entry {
-        before: name_of(line),
-        client: ClientId(0),
-        number: 0,
-        version: empty_version(),
-        plan: Some(Plan::even(head.services, head.replicas)),
-    };
-    Setting {
-        services: head.services,
-        clients: head.clients,
-        genesis,
-    }
+    let before = name_of(line);
+    let plan = Plan::even(head.services, head.replicas);
+    Setting::first(head.services, head.clients, before, empty_version(), plan)
 }

@@ -4,6 +4,7 @@
 pub mod drill;
 mod event;
 mod head;
+pub mod law;
 
 pub use drill::{Drill, Events, read_drill};
 pub use head::Head;
