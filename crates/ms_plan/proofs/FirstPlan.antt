@@ -3,13 +3,10 @@ use Rattle.std.proofs.Common.{◌≡◌, ℕ, zero, suc, ◌+◌, ◌/◌, ◌<�
 use Rattle.std.specs.List.{range_with_len}
 use Rattle.std.proofs.lemmas.List.{length-take-le, take_more, take_more_set}
 use Rattle.std.proofs.lemmas.Option.{slice_get_within}
-use Rattle.sha2.proofs.Facts256.{length-sha256}
-use Rattle.ms_record.specs.Plans.{IsPlan, IsRow}
-use Rattle.ms_record.specs.Settings.{IsSetting}
+use Rattle.ms_record.specs.Plans.{IsPlan, IsRow, PlanView}
+use Rattle.ms_record.specs.Settings.{IsFirstPlan}
 use Rattle.ms_record.specs.declared.plan.PlanRow.{PlanRow}
-use Rattle.ms_record.specs.declared.setting.Setting.{Setting}
-use Rattle.ms_object.specs.Objects.{empty_version}
-use Rattle.ms_plan.specs.Configuration.{first_plan, row_of, rows_from, setting_of}
+use Rattle.ms_plan.specs.Configuration.{first_plan, row_of, rows_from}
 use Rattle.ms_plan.specs.Drafts.{AreNumbers, DraftView, IsDraft}
 use Rattle.ms_plan.specs.declared.config_line.ServiceLine.{ServiceLine}
 use Rattle.ms_plan.proofs.Tests.{same_some}
@@ -67,19 +64,20 @@ services_are : (n : ℕ) (services : List ServiceLine) → map (λ (row : PlanRo
 services_are n [] = refl
 services_are n (s ∷ services) = ap (λ (l : List ℕ). n ∷ l) (services_are (n + 1) services)
 
-pub setting_fits : (text : List ℕ) (draft : DraftView) → IsDraft draft → AreNumbers draft → 0 < length draft.clients → IsSetting (setting_of text draft)
-unfolding empty_version
-setting_fits text draft h numbers some =
-    let enough : draft.replicas ≤ length draft.services = h.enough some in record {
-      some_services = omega (arith, h.some_replicas);
-      few_services = h.few_services;
-      some_clients = some;
-      few_clients = h.few_clients;
-      genesis = record { before = length-sha256 text; client = omega arith; number = omega arith; version = length-sha256 _; plan = first_keeps draft h numbers some };
-      plan = first_plan draft;
-      plan_is = refl;
-      first = record { generation = refl; format = refl; rows = services_are 0 draft.services };
-    }
+plan_is_first : (draft : DraftView) → IsFirstPlan (length draft.services) (first_plan draft)
+plan_is_first draft = record { generation = refl; format = refl; rows = services_are 0 draft.services }
+
+-- the numbers of a draft are those of a setting, and its plan is a first one
+pub first_fits : (draft : DraftView) (services clients : ℕ) (plan : PlanView) → services ≡ length draft.services → clients ≡ length draft.clients → plan ≡ first_plan draft → IsDraft draft → 0 < length draft.clients
+    → (1 ≤ services) × (services ≤ 16) × (1 ≤ clients) × (clients ≤ 16) × IsFirstPlan services plan
+first_fits draft services clients plan all given is h some =
+    let enough : draft.replicas ≤ length draft.services = h.enough some in (
+      omega (arith, h.some_replicas),
+      omega (arith, h.few_services),
+      omega (arith, some),
+      omega (arith, h.few_clients),
+      subst (λ (n : ℕ). IsFirstPlan n plan) (sym all) (subst (λ (p : PlanView). IsFirstPlan (length draft.services) p) (sym is) (plan_is_first draft)),
+    )
 
 pub rows-push : (n : ℕ) (services : List ServiceLine) (service : ServiceLine) → rows_from n (services ++ service ∷ []) ≡ rows_from n services ++ row_of (n + length services) service ∷ []
 rows-push n [] service = ap (λ (m : ℕ). row_of m service ∷ []) (sym (add-zero n))
@@ -105,6 +103,3 @@ pub front_rows : (rows : List PlanRow) (services : List ServiceLine) (i n : ℕ)
 front_rows rows services i n low high all h =
     let same : n ≡ i = omega arith in
     ap (λ (m : ℕ). take m rows) same ∙ h ∙ ap (rows_from 0) (take_all i services low)
-
-pub same_setting : (s : Setting) (text : List ℕ) (draft : DraftView) → s ≡ setting_of text draft → IsDraft draft → AreNumbers draft → 0 < length draft.clients → IsSetting s
-same_setting s text draft is h numbers some = subst IsSetting (sym is) (setting_fits text draft h numbers some)

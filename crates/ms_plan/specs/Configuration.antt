@@ -4,8 +4,7 @@ use Rattle.ms_base.specs.declared.names.ClientId.{ClientId}
 use Rattle.ms_base.specs.declared.names.Name.{Name}
 use Rattle.ms_object.specs.Objects.{empty_version, name_of}
 use Rattle.ms_record.specs.Plans.{PlanView, plan_of}
-use Rattle.ms_record.specs.Settings.{IsSetting}
-use Rattle.ms_record.specs.declared.entry.Entry.{Entry}
+use Rattle.ms_record.specs.Settings.{IsSetting, first_setting}
 use Rattle.ms_record.specs.declared.plan.PlanRow.{PlanRow}
 use Rattle.ms_record.specs.declared.refusal.Place.TheVariants as places
 use Rattle.ms_record.specs.declared.refusal.Refusal.{Refusal}
@@ -49,12 +48,9 @@ rows_from number (service ∷ services) = row_of number service ∷ rows_from (n
 abbrev pub first_plan : DraftView → PlanView
 first_plan draft = plan_of 1 1 draft.replicas draft.unit (rows_from 0 draft.services)
 
--- the genesis, whose member before is the SHA-256 of the whole text
-abbrev pub genesis_of : List ℕ → DraftView → Entry
-genesis_of text draft = record { before = named text; client = client_of 0; number = 0; version = empty_version; plan = Some (first_plan draft) }
-
+-- the setting, before whose genesis the SHA-256 of the whole text stands
 abbrev pub setting_of : List ℕ → DraftView → Setting
-setting_of text draft = record { services = length draft.services; clients = length draft.clients; genesis = genesis_of text draft }
+setting_of text draft = first_setting (length draft.services) (length draft.clients) (named text) empty_version (first_plan draft)
 
 abbrev pub config_of : List ℕ → DraftView → ConfigView
 config_of text draft = record { setting = setting_of text draft; services = labels_of draft.services; clients = draft.clients }

@@ -18,7 +18,7 @@ use crate::config_line::{Line, ServiceLine, read_line};
 use crate::draft::{Draft, MOST};
 use ms_base::{ClientId, Name, NoMemory, ServiceId};
 use ms_object::{empty_version, name_of};
-use ms_record::{Entry, Place, Plan, PlanRow, Refusal, Setting, wrong_line};
+use ms_record::{Place, Plan, PlanRow, Refusal, Setting, wrong_line};
 use ms_text::{Label, first_wrong_lines, next_line};
 use std::alloc::Global;
 use std::marker::Model;
@@ -200,18 +200,10 @@ fn setting(text: &[u8], draft: &Draft) -> Setting
     ensures is { result ≡ setting_of text.now draft.now }
     ensures fits { IsSetting result }
 {
-    let genesis = Entry {
-        before: name_of(text),
-        client: ClientId(0),
-        number: 0,
-        version: empty_version(),
-        plan: Some(first_plan(draft)),
-    };
-    Setting {
-        services: draft.services.len() as u32,
-        clients: draft.clients.len() as u32,
-        genesis,
-    }
+    let services = draft.services.len() as u32;
+    let clients = draft.clients.len() as u32;
+    let plan = first_plan(draft);
+    Setting::first(services, clients, name_of(text), empty_version(), plan)
 }
 
 /// The first plan: all services in their order.

@@ -1,15 +1,12 @@
-use Rattle.std.proofs.Common.{◌≡◌, Some, subst, rules}
-use Rattle.ms_record.specs.declared.setting.Setting.{Setting}
-use Rattle.ms_plan.specs.Configuration.{setting_of}
-use Rattle.ms_plan.specs.Drafts.{AreNumbers, IsDraft}
-use Rattle.ms_plan.proofs.FirstPlan.{same_setting}
+use Rattle.std.proofs.Common.{◌≡◌, ap, subst, length, arith}
+use Rattle.ms_plan.specs.Drafts.{DraftView, IsDraft}
+use Rattle.ms_plan.proofs.FirstPlan.{first_fits}
 use Rattle.ms_plan.proofs.config.setting.Goals as goal
 
-setting : (c : goal.After-len-2) → Setting
-setting c = record { services = c.len.result; clients = c.len-2.result; genesis = record { before = c.name_of.result; client = record { 0 = 0 }; number = 0; version = c.empty_version.result; plan = Some c.first_plan.result } }
-
 pub returns-clause-fits : goal.returns-clause-fits
-unfolding setting
 returns-clause-fits c =
-    let is : setting c ≡ setting_of c.args.text.now c.args.draft.now = search rules in
-    same_setting (setting c) c.args.text.now c.args.draft.now is (subst IsDraft c.draft.view_is c.draft.invariant.rules) (subst AreNumbers c.draft.view_is c.draft.invariant.numbers) c.requires
+    let draft = c.args.draft.now in
+    let services : c.len-services.result ≡ length draft.services = omega (arith, c.len-services.ensures, c.draft.inside.services.ok.0, ap (λ (d : DraftView). length d.services) c.draft.view_is) in
+    let clients : c.len-clients.result ≡ length draft.clients = omega (arith, c.len-clients.ensures, c.draft.inside.clients.ok.0, ap (λ (d : DraftView). length d.clients) c.draft.view_is) in
+    let f = first_fits draft c.len-services.result c.len-clients.result c.first_plan-plan.result services clients c.first_plan-plan.ensures.is (subst IsDraft c.draft.view_is c.draft.invariant.rules) c.requires in
+    c.first.ensures.fits f.0 f.1 f.2 f.3 f.4
