@@ -11,3 +11,4 @@ pub mod Linking
 pub mod OneStanding
 pub mod OneAudit
 pub mod DumpSpelling
+pub mod DumpWhole

@@ -1,14 +1,14 @@
 //! Laws: what lists show is one thing.
 
-ghost use Rattle.std.specs.Prelude.{◌≡◌, ◌≤◌, ◌↔◌, ℕ, List, Some};
+ghost use Rattle.std.specs.Prelude.{◌≡◌, ◌≤◌, ◌↔◌, ℕ, List, Ok, Some};
 ghost use Rattle.ms_record.specs.declared.record.Record.{Record};
 ghost use Rattle.ms_record.specs.Reading.{votes_of};
 ghost use Rattle.ms_replay.specs.declared.audit.Audit.{Audit};
 ghost use Rattle.ms_replay.specs.declared.dump.Dump.{Dump};
 ghost use Rattle.ms_replay.specs.declared.standing.Standing.{Standing};
 ghost use Rattle.ms_replay.specs.Audits.{IsAudit};
-ghost use Rattle.ms_replay.specs.DumpLines.{SpellsHead, SpellsRow};
-ghost use Rattle.ms_replay.specs.Dumps.{head_at, row_at};
+ghost use Rattle.ms_replay.specs.DumpLines.{SpellsDump, SpellsHead, SpellsRow};
+ghost use Rattle.ms_replay.specs.Dumps.{dump_at, head_at, row_at};
 ghost use Rattle.ms_replay.specs.Laws.{AreAmong, AreInRange, AreOfBytes};
 ghost use Rattle.ms_replay.specs.Standings.{IsStanding};
 
@@ -36,8 +36,9 @@ pub fn one_audit()
     one_chain();
 }
 
-/// A line of a dump is read exactly where it is spelled so: `docs/FORMATS.md`, dump.
+/// A dump, and each of its lines, is read exactly where it is spelled so: `docs/FORMATS.md`, dump.
 pub fn lines_are_spelled()
+    ensures whole { (text : List ℕ) (dump : Dump) → dump_at text ≡ Ok dump ↔ SpellsDump text dump }
     ensures head { (line : List ℕ) (services : ℕ) (genesis : List ℕ) → head_at line ≡ Some (services, genesis) ↔ SpellsHead line services genesis }
     ensures row { (services : ℕ) (line : List ℕ) (service : ℕ) (text : List ℕ) → services ≤ 16
         → row_at services line ≡ Some (service, text) ↔ SpellsRow services line service text }

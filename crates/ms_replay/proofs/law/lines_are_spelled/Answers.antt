@@ -1,4 +1,5 @@
 use Rattle.ms_replay.proofs.DumpSpelling.{WordLaws, head_spelled, head_read, row_spelled, row_read}
+use Rattle.ms_replay.proofs.DumpWhole.{dump_spelled, dump_read}
 use Rattle.ms_replay.proofs.law.lines_are_spelled.Goals as goal
 
 laws : (c : goal.After-one_spelling) → WordLaws
@@ -8,6 +9,9 @@ laws c = record {
   again = c.one_spelling.ensures.again;
   no_space = c.one_spelling.ensures.no_space;
 }
+
+pub returns-clause-whole : goal.returns-clause-whole
+returns-clause-whole c = λ text dump. (dump_spelled (laws c) text dump, dump_read (laws c) text dump)
 
 pub returns-clause-head : goal.returns-clause-head
 returns-clause-head c = λ line services genesis. (head_spelled (laws c) line services genesis, head_read (laws c) line services genesis)
