@@ -1,15 +1,12 @@
 -- The outside in memory: what is held, and the numbers of the calls that fail, counted from 0.
-use Rattle.std.specs.Prelude.{◌≡◌, ◌⊎◌, ℕ, ◌+◌, ◌-◌, ◌^◌, ◌<◌, ◌≤◌, ◌==◌, ◌&&◌, Bool, true, false, List, [], ◌∷◌, ◌++◌, length, map, min, nat_lt, take, drop, Option, Some, None, Result, Ok, Err, IfSome, if◌then◌else◌}
+use Rattle.std.specs.Prelude.{◌≡◌, ◌⊎◌, ℕ, ◌+◌, ◌<◌, ◌≤◌, ◌==◌, ◌&&◌, Bool, true, false, List, [], ◌∷◌, ◌++◌, length, map, nat_lt, take, drop, Option, Some, None, Result, Ok, Err, IfSome, if◌then◌else◌}
 use Rattle.std.specs.List.{list_any}
+use Rattle.ms_base.specs.Counts.{one_more}
 use Rattle.ms_base.specs.declared.outside.Failed.{Failed}
 use Rattle.ms_base.specs.declared.outside.ReadError.{ReadError}
 use Rattle.ms_base.specs.declared.outside.ReadError.TheVariants as errors
 use Rattle.ms_base.specs.declared.memory.InputText.{InputText}
 use Rattle.ms_base.specs.Outside.{SourceView, SinkView, InputsView, shows_end, text_named}
-
--- one more, as far as the type goes
-abbrev pub one_more : ℕ → ℕ
-one_more n = min (n + 1) (2 ^ 64 - 1)
 
 -- which calls fail, how many were made, and how many failed
 pub record Calls : Type 0 where
@@ -56,7 +53,7 @@ abbrev pub sink_of : Taken → SinkView
 sink_of taken = record { contents = Some taken.text; faults = taken.calls.faults }
 
 abbrev pub inputs_of : Named → InputsView
-inputs_of named = record { texts = Some named.texts; ended = named.ended; faults = named.calls.faults }
+inputs_of named = record { texts = Some named.texts; reads = named.calls.made; ended = named.ended; faults = named.calls.faults }
 
 -- a text that is read, where it is short enough
 abbrev pub short_text : ℕ → Option (List ℕ) → Result (List ℕ) ReadError

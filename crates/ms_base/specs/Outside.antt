@@ -13,9 +13,10 @@ pub record SinkView : Type 0 where
   pub contents : Option (List ℕ)
   pub faults : ℕ
 
--- inputs: the texts by their names, where they are told; whether the last text was read to its end
+-- inputs: the texts by their names, where they are told; how often one was asked for; whether the last text was read to its end
 pub record InputsView : Type 0 where
   pub texts : Option (List (List ℕ × List ℕ))
+  pub reads : ℕ
   pub ended : Bool
   pub faults : ℕ
 

@@ -12,6 +12,7 @@ pub mod outside;
 pub mod script;
 pub mod standard;
 pub mod streams;
+pub mod text;
 
 pub use bytes::{Bytes, NoMemory};
 pub use gate::{FreeGate, Gate, Point};
@@ -22,6 +23,7 @@ pub use outside::{Failed, Inputs, MOST_INPUT, OutsideError, ReadError, Sink, Sou
 pub use script::Script;
 pub use standard::{StdSink, StdSource};
 pub use streams::{read_all, write_all};
+pub use text::Text;
 
 #[cfg(test)]
 mod tests;

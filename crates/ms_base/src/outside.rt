@@ -4,7 +4,7 @@ ghost use Rattle.std.specs.Prelude.{◌≡◌, ◌<◌, ◌≤◌, length, take,
 ghost use Rattle.std.specs.Io.KnownBytes.{Appends, Consumes, Keeps, IsAtEnd};
 ghost use Rattle.ms_base.specs.declared.outside.ReadError.TheVariants as errors;
 ghost use Rattle.ms_base.specs.declared.outside.OutsideError.TheVariants as outside_errors;
-ghost use Rattle.ms_base.specs.Counts.{Causes};
+ghost use Rattle.ms_base.specs.Counts.{Causes, one_more};
 ghost use Rattle.ms_base.specs.Outside.{SourceView, SinkView, InputsView, shows_end, StaysTold};
 ghost use Rattle.ms_base.specs.Reading.{GivesInput, StaysUnlessFailed};
 
@@ -136,6 +136,7 @@ pub trait Inputs {
     fn input(&mut self, alloc: Global, name: &str) -> Result<Bytes, ReadError>
         ensures gives { GivesInput name.now MOST_INPUT (seen self.old) (seen self.new) result }
         ensures same { (seen self.new).texts ≡ (seen self.old).texts }
+        ensures reads { (seen self.new).reads ≡ one_more (seen self.old).reads }
         ensures kept { keeps self.old self.new }
         ensures later { (seen self.old).faults ≤ (seen self.new).faults }
         ensures steady { StaysUnlessFailed (seen self.old).faults (seen self.new).faults result };

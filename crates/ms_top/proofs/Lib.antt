@@ -3,3 +3,4 @@ mod TextFaults
 mod CauseLaws
 mod RunLaws
 mod Together
+mod Alike

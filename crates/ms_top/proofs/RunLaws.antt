@@ -1,6 +1,6 @@
 -- What an answer that was told leaves.
 use Rattle.std.proofs.Common.{◌≡◌, ◌≢◌, ℕ, ◌<◌, List, Option, Some, None, IsSome, Result, Ok, Err, ◌⊎◌, inl, inr, refl, sym, ap, ◌∙◌, subst, arith}
-use Rattle.ms_base.specs.Counts.{Rose}
+use Rattle.ms_base.specs.Counts.{Rose, one_more}
 use Rattle.ms_base.specs.Outside.{InputsView, OutsideView, SinkView}
 use Rattle.ms_record.specs.declared.refusal.Refusal.{Refusal}
 use Rattle.ms_record.specs.declared.refusal.Refusal.TheVariants as refusals
@@ -9,7 +9,7 @@ use Rattle.ms_words.specs.declared.command.Command.TheVariants.{Audit, Drill, Ha
 use Rattle.ms_words.specs.declared.report.Report.{Report}
 use Rattle.ms_words.specs.declared.report.Report.TheVariants as reports
 use Rattle.ms_words.specs.Texts.{status_of}
-use Rattle.ms_top.specs.Answers.{Answers, ByCommand, Carries}
+use Rattle.ms_top.specs.Answers.{Answers, ByCommand, Carries, ReadsOnce}
 use Rattle.ms_top.specs.Audits.{AuditSays}
 use Rattle.ms_top.specs.Causes.{CauseOf}
 use Rattle.ms_top.specs.Drills.{DrillSays}
@@ -49,6 +49,46 @@ command_on None old new result h = stays old new h.0
 command_on (Some (Audit file)) old new result h = input_on AuditSays file old new result h
 command_on (Some (Drill file)) old new result h = input_on DrillSays file old new result h
 command_on (Some (Hash file)) old new result h = input_on HashSays file old new result h
+
+-- ---- an input is read once
+
+input_once : (Says : List ℕ → Result Report Refusal → Type 0) (file : List ℕ) (old new : OutsideView) (result : Result Report Refusal) → OnInput Says file old new result
+    → new.inputs.reads ≡ one_more old.inputs.reads
+input_once Says file old new result (inl h) = h.1.reads
+input_once Says file old new result (inr h) = ap (λ (v : OutsideView). v.inputs.reads) h.3.0 ∙ h.2.reads
+
+once : (command : Command) (old new : OutsideView) (result : Result Report Refusal) → new.inputs.reads ≡ one_more old.inputs.reads → ReadsOnce (Some command) old new result
+once command old new (Ok report) h = h
+once command old new (Err refusals.Usage) h = h
+once command old new (Err (refusals.BadInput place line)) h = h
+once command old new (Err (refusals.OutsideFault place)) h = h
+once command old new (Err refusals.NoMemory) h = inr h
+once command old new (Err (refusals.Split position first second)) h = h
+once command old new (Err (refusals.Limit what value)) h = h
+once command old new (Err (refusals.NotEnabled number why)) h = h
+
+command_once : (asked : Option Command) (old new : OutsideView) (result : Result Report Refusal) → ByCommand asked old new result → ReadsOnce asked old new result
+command_once None old new result h = ap (λ (v : OutsideView). v.inputs.reads) h.0
+command_once (Some (Audit file)) old new result h = once (Audit file) old new result (input_once AuditSays file old new result h)
+command_once (Some (Drill file)) old new result h = once (Drill file) old new result (input_once DrillSays file old new result h)
+command_once (Some (Hash file)) old new result h = once (Hash file) old new result (input_once HashSays file old new result h)
+
+-- memory ran out before the reading
+unread : (asked : Option Command) (old new : OutsideView) (result : Result Report Refusal) → result ≡ Err refusals.NoMemory → new ≡ old → ReadsOnce asked old new result
+unread None old new result is same = ap (λ (v : OutsideView). v.inputs.reads) same
+unread (Some command) old new result is same = subst (ReadsOnce (Some command) old new) (sym is) (inl (ap (λ (v : OutsideView). v.inputs.reads) same))
+
+-- memory ran out for telling the answer
+untold : (asked : Option Command) (old new : OutsideView) (result : Result Report Refusal) → ReadsOnce asked old new result → ReadsOnce asked old new (Err refusals.NoMemory)
+untold None old new result h = h
+untold (Some command) old new (Ok report) h = inr h
+untold (Some command) old new (Err refusals.Usage) h = inr h
+untold (Some command) old new (Err (refusals.BadInput place line)) h = inr h
+untold (Some command) old new (Err (refusals.OutsideFault place)) h = inr h
+untold (Some command) old new (Err refusals.NoMemory) h = h
+untold (Some command) old new (Err (refusals.Split position first second)) h = inr h
+untold (Some command) old new (Err (refusals.Limit what value)) h = inr h
+untold (Some command) old new (Err (refusals.NotEnabled number why)) h = inr h
 
 -- ---- a fault has its count
 
@@ -107,13 +147,14 @@ module _ (command : Option Command) (old new : OutsideView) where
   by_inputs report before after status (inr t) said = inl t.0
 
   -- an answer that was told, where the count of the inputs rose with a fault alone
-  told : (result : Result Report Refusal) (before after : SinkView) (status : ℕ) → GoesOn old new → (old.inputs.faults < new.inputs.faults → IsFault result) → Answers command old new result
+  told : (result : Result Report Refusal) (before after : SinkView) (status : ℕ) → ReadsOnce command old new result → GoesOn old new → (old.inputs.faults < new.inputs.faults → IsFault result) → Answers command old new result
       → Tells (report_of result) before after status → SinkGoesOn before after → Runs command old new before after status
-  told result before after status goes_on rises answers tells sink =
+  told result before after status reads goes_on rises answers tells sink =
       let cause = cause_of command old new result answers in
       record {
         result = result;
         answers = answers;
+        reads = reads;
         cause = cause;
         tells = tells;
         goes_on = goes_on;
@@ -135,18 +176,18 @@ module _ (command : Option Command) (old new : OutsideView) where
       by (Some asked) h = refl
 
   -- an answer, or that memory ran out for its lines, is told
-  runs : (result : Result Report Refusal) (before after : SinkView) (status : ℕ) → GoesOn old new → (old.inputs.faults < new.inputs.faults → IsFault result) → Answers command old new result
+  runs : (result : Result Report Refusal) (before after : SinkView) (status : ℕ) → ReadsOnce command old new result → GoesOn old new → (old.inputs.faults < new.inputs.faults → IsFault result) → Answers command old new result
       → TellsOrNoMemory (report_of result) before after status → SinkGoesOn before after → Runs command old new before after status
-  runs result before after status goes_on rises answers (inl tells) sink = told result before after status goes_on rises answers tells sink
-  runs result before after status goes_on rises answers (inr tells) sink =
-      told (Err refusals.NoMemory) before after status goes_on (λ r. inr refl) (inl (is_asked result answers tells.0, refl)) tells.1 sink
+  runs result before after status reads goes_on rises answers (inl tells) sink = told result before after status reads goes_on rises answers tells sink
+  runs result before after status reads goes_on rises answers (inr tells) sink =
+      told (Err refusals.NoMemory) before after status (untold command old new result reads) goes_on (λ r. inr refl) (inl (is_asked result answers tells.0, refl)) tells.1 sink
 
 pub runs_carried : (command : Option Command) (old new : OutsideView) (result : Result Report Refusal) (before after : SinkView) (status : ℕ) → Carries command old new result → TellsOrNoMemory (report_of result) before after status
     → SinkGoesOn before after → Runs command old new before after status
 runs_carried command old new result before after status (inl h) tells sink =
-    runs command old new result before after status (stays old new h.2) (λ rises. as_fault result _ h.1 (inr refl)) (inl (h.0, h.1)) tells sink
+    runs command old new result before after status (unread command old new result h.1 h.2) (stays old new h.2) (λ rises. as_fault result _ h.1 (inr refl)) (inl (h.0, h.1)) tells sink
 runs_carried command old new result before after status (inr by) tells sink =
-    runs command old new result before after status (command_on command old new result by) (command_rises command old new result by) (inr by) tells sink
+    runs command old new result before after status (command_once command old new result by) (command_on command old new result by) (command_rises command old new result by) (inr by) tells sink
 
 pub judged : (verb : Verb) (name : List ℕ) (old new : OutsideView) (result : Result Report Refusal) → OnInput (VerbSays verb) name old new result → Carries (Some (command_with verb name)) old new result
 judged verbs.Audit name old new result h = inr h

@@ -12,7 +12,7 @@ use Rattle.ms_drill.specs.declared.drill.Drill.{Drill}
 use Rattle.ms_record.specs.declared.refusal.Refusal.{Refusal}
 use Rattle.ms_record.specs.declared.refusal.Refusal.TheVariants as refusals
 use Rattle.ms_record.specs.declared.setting.Setting.{Setting}
-use Rattle.ms_top.specs.Drills.{RunsEvents}
+use Rattle.ms_top.specs.Drills.{IsInRange, RunsEvents}
 
 pub steps_more : (setting : Setting) (w next last : WorldView) (xs : List Event) (event : Event) → Steps setting w xs next → Step setting next event last → Steps setting w (xs ++ event ∷ []) last
 steps_more setting w next last [] event same step = (last, subst (λ (v : WorldView). Step setting v event last) same step, refl)
@@ -38,13 +38,14 @@ around xs i event within at =
     sym (take-append-drop i xs) ∙ ap (λ (ys : List Event). take i xs ++ ys) (drop_more xs i event within) ∙ ap (λ (e : Event). take i xs ++ e ∷ drop (i + 1) xs) (sym at)
 
 -- the first event that can't happen
-pub stops : (drill : Drill) (events : List Event) (i : ℕ) (event : Event) (old new : HeldView) (given : Result Unit Refusal) (refusal : Refusal) → events ≡ drill.events → i < length events
+pub stops : (drill : Drill) (events : List Event) (i : ℕ) (event : Event) (old new : HeldView) (given : Result Unit Refusal) (refusal : Refusal) → IsInRange drill → events ≡ drill.events → i < length events
     → event ≡ get_or events i event → Carried drill.setting events i old → StepsTo old event new given → given ≡ Err refusal → RunsEvents drill (Err refusal)
-stops drill events i event old new given refusal same within at so_far steps is = by refusal (subst (StepsTo old event new) is steps)
+stops drill events i event old new given refusal ranges same within at so_far steps is = by refusal (subst (StepsTo old event new) is steps)
   where
     by : (refusal : Refusal) → StepsTo old event new (Err refusal) → RunsEvents drill (Err refusal)
     by refusals.NoMemory s = tt
     by (refusals.NotEnabled number why) s = record {
+      ranges = ranges;
       before = take i events;
       event = event;
       rest = drop (i + 1) events;

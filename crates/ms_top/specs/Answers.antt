@@ -1,5 +1,6 @@
 -- What a command answers; none is asked for where the words are outside the grammar. A command adds one line to `ByCommand`.
 use Rattle.std.specs.Prelude.{◌≡◌, ◌⊎◌, Option, Some, None, IsSome, Result, Err}
+use Rattle.ms_base.specs.Counts.{one_more}
 use Rattle.ms_base.specs.Outside.{OutsideView}
 use Rattle.ms_record.specs.declared.refusal.Refusal.{Refusal}
 use Rattle.ms_record.specs.declared.refusal.Refusal.TheVariants as refusals
@@ -25,3 +26,9 @@ Answers command old new result = (IsSome command × (result ≡ Err refusals.NoM
 -- memory runs out for the words of a command, and nothing is touched; or the command is answered
 abbrev pub Carries : Option Command → OutsideView → OutsideView → Result Report Refusal → Type 0
 Carries command old new result = (IsSome command × (result ≡ Err refusals.NoMemory) × (new ≡ old)) ⊎ ByCommand command old new result
+
+-- wrong words read nothing, and a command reads its input once; memory may run out before that
+abbrev pub ReadsOnce : Option Command → OutsideView → OutsideView → Result Report Refusal → Type 0
+ReadsOnce None old new result = new.inputs.reads ≡ old.inputs.reads
+ReadsOnce (Some command) old new (Err refusals.NoMemory) = (new.inputs.reads ≡ old.inputs.reads) ⊎ (new.inputs.reads ≡ one_more old.inputs.reads)
+ReadsOnce (Some command) old new result = new.inputs.reads ≡ one_more old.inputs.reads

@@ -1,11 +1,11 @@
 -- What the command `drill` answers: the chain of the logs that a run leaves and what each client knows, or the event that
 -- can't happen, or what is wrong with the text.
-use Rattle.std.specs.Prelude.{◌≡◌, ◌⊎◌, ℕ, ◌+◌, List, ◌∷◌, ◌++◌, length, map, slice_get, Some, Result, Ok, Err}
+use Rattle.std.specs.Prelude.{◌≡◌, ◌⊎◌, ℕ, ◌+◌, All, List, ◌∷◌, ◌++◌, length, map, slice_get, Some, Result, Ok, Err}
 use Rattle.ms_base.specs.declared.names.Name.{Name}
 use Rattle.ms_world.specs.declared.event.Event.{Event}
 use Rattle.ms_world.specs.Held.{HeldView}
 use Rattle.ms_world.specs.Refusals.{IsRefused}
-use Rattle.ms_world.specs.Steps.{IsRun}
+use Rattle.ms_world.specs.Steps.{IsEvent, IsRun}
 use Rattle.ms_world.specs.Worlds.{ClientView, WorldView, votes_of_world}
 use Rattle.ms_drill.specs.declared.drill.Drill.{Drill}
 use Rattle.ms_drill.specs.Drills.{drill_at}
@@ -15,7 +15,7 @@ use Rattle.ms_record.specs.declared.refusal.Refusal.TheVariants as refusals
 use Rattle.ms_record.specs.declared.refusal.Why.{Why}
 use Rattle.ms_record.specs.Chains.{Begins, IsChain}
 use Rattle.ms_record.specs.Entries.{name_of}
-use Rattle.ms_record.specs.Settings.{origin_of}
+use Rattle.ms_record.specs.Settings.{IsSetting, origin_of}
 use Rattle.ms_words.specs.declared.report.Report.{Report}
 use Rattle.ms_words.specs.declared.report.Report.TheVariants as reports
 use Rattle.ms_top.specs.Inputs.{TextSays}
@@ -32,8 +32,14 @@ pub record HoldTogether (w : WorldView) (entries : List Entry) : Type 0 where
   pub one_master : (i j place : ℕ) (c d : ClientView) (e f : Entry) → slice_get w.clients i ≡ Some c → slice_get w.clients j ≡ Some d
       → slice_get c.chain place ≡ Some e → slice_get d.chain place ≡ Some f → e ≡ f
 
+-- the setting and the events are in their ranges
+pub record IsInRange (drill : Drill) : Type 0 where
+  pub setting : IsSetting drill.setting
+  pub events : All IsEvent drill.events
+
 -- all events of the drill happen, and lead to a world with this chain of the logs and these last positions
 pub record RunsWhole (drill : Drill) (genesis : Name) (entries : List Entry) (known : List ℕ) : Type 0 where
+  pub ranges : IsInRange drill
   pub world : WorldView
   pub run : IsRun drill.setting drill.events world
   pub genesis_is : genesis.0 ≡ name_of drill.setting.genesis
@@ -43,6 +49,7 @@ pub record RunsWhole (drill : Drill) (genesis : Name) (entries : List Entry) (kn
 
 -- the events before it happen; of this one, with this number from 1, that condition is the first that fails
 pub record StopsAt (drill : Drill) (number : ℕ) (why : Why) : Type 0 where
+  pub ranges : IsInRange drill
   pub before : List Event
   pub event : Event
   pub rest : List Event
@@ -64,6 +71,7 @@ DrillSays = TextSays drill_at RunSays
 
 -- a world that all events of the drill lead to
 pub record LeadsTo (drill : Drill) (held : HeldView) : Type 0 where
+  pub ranges : IsInRange drill
   pub setting : held.setting ≡ drill.setting
   pub run : IsRun drill.setting drill.events held.world
 

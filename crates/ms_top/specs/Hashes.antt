@@ -1,5 +1,5 @@
 -- What the command `hash` answers: the tree of a listing's files, or the first fault of the listing.
-use Rattle.std.specs.Prelude.{◌≡◌, ℕ, ◌⊎◌, List, length, Some, Result, Ok, Err}
+use Rattle.std.specs.Prelude.{◌≡◌, ℕ, ◌⊎◌, List, length, Some, None, Result, Ok, Err}
 use Rattle.ms_base.specs.declared.names.Name.{Name}
 use Rattle.ms_base.specs.declared.names.Quantity.TheVariants as quantities
 use Rattle.ms_object.specs.declared.format.Format.TheVariants as formats
@@ -13,8 +13,9 @@ use Rattle.ms_words.specs.declared.report.Report.{Report}
 use Rattle.ms_words.specs.declared.report.Report.TheVariants as reports
 use Rattle.ms_top.specs.Inputs.{TextSays}
 
--- how many files there are, how many different objects they have, and the root of their tree
+-- no file is too large for format 1; how many files there are, how many different objects they have, and the root of their tree
 pub record IsHash (files : FileList) (count objects : ℕ) (root : Name) : Type 0 where
+  pub small : first_large formats.One files ≡ None
   pub count_is : count ≡ length files
   pub store : Texts
   pub planted : IsPlanted formats.One files store root

@@ -1,6 +1,6 @@
 -- A command over one input.
 use Rattle.std.specs.Prelude.{◌≡◌, ◌⊎◌, ℕ, ◌+◌, ◌≤◌, true, List, length, Result, Ok, Err}
-use Rattle.ms_base.specs.Counts.{Rose}
+use Rattle.ms_base.specs.Counts.{Rose, one_more}
 use Rattle.ms_base.specs.Outside.{InputsView, OutsideView, HasText}
 use Rattle.ms_base.specs.Reading.{HasLongText}
 use Rattle.ms_base.specs.declared.limits.TheConstants.{INPUT_BYTES}
@@ -25,10 +25,11 @@ InputGives name old new (Err refusal) =
     ⊎ (((refusal ≡ refusals.Limit quantities.Input (INPUT_BYTES + 1)) × HasLongText old name INPUT_BYTES × (new.faults ≡ old.faults))
     ⊎ ((refusal ≡ refusals.NoMemory) × (new.faults ≡ old.faults)))
 
--- an input is read: the texts stay, and no count falls
+-- an input is read once: the texts stay, and the count of faults does not fall
 pub record ReadsInput (name : List ℕ) (old new : OutsideView) (result : Result (List ℕ) Refusal) : Type 0 where
   pub gives : InputGives name old.inputs new.inputs result
   pub texts : new.inputs.texts ≡ old.inputs.texts
+  pub reads : new.inputs.reads ≡ one_more old.inputs.reads
   pub later : old.inputs.faults ≤ new.inputs.faults
 
 -- the answer on a text is of the value that it spells; or memory runs out

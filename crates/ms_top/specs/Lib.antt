@@ -8,3 +8,4 @@ pub mod Answers
 pub mod Telling
 pub mod Causes
 pub mod Runs
+pub mod Alike

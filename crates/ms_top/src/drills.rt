@@ -2,11 +2,11 @@
 
 ghost use Rattle.std.specs.Prelude.{◌≡◌, ◌≤◌, length, IfOk, List};
 ghost use Rattle.ms_record.specs.Chains.{IsChain};
-ghost use Rattle.ms_record.specs.Settings.{IsSetting, origin_of};
+ghost use Rattle.ms_record.specs.Settings.{origin_of};
 ghost use Rattle.ms_record.specs.declared.entry.Entry.{Entry};
 ghost use Rattle.ms_world.specs.Worlds.{votes_of_world};
 ghost use Rattle.ms_base.specs.declared.limits.TheConstants.{INPUT_BYTES};
-ghost use Rattle.ms_top.specs.Drills.{DrillSays, HoldTogether, LeadsTo, RunSays, RunsEvents, known_of};
+ghost use Rattle.ms_top.specs.Drills.{DrillSays, HoldTogether, IsInRange, LeadsTo, RunSays, RunsEvents, known_of};
 ghost use Rattle.ms_top.specs.Steps.{OrNoMemory};
 
 use ms_base::{ClientId, Items, NoMemory};
@@ -30,7 +30,7 @@ pub(crate) fn drill_text(alloc: Global, text: &[u8]) -> Result<Report, Refusal>
 
 /// The answer on a schedule.
 fn on_drill(alloc: Global, drill: &Drill) -> Result<Report, Refusal>
-    requires { IsSetting drill.now.setting }
+    requires { IsInRange drill.now }
     ensures { OrNoMemory result (RunSays drill.now result) }
 {
     match run_events(alloc, drill) {
@@ -41,7 +41,7 @@ fn on_drill(alloc: Global, drill: &Drill) -> Result<Report, Refusal>
 
 /// The world that all events lead to, or why one of them can't happen.
 fn run_events(alloc: Global, drill: &Drill) -> Result<World, Refusal>
-    requires { IsSetting drill.now.setting }
+    requires { IsInRange drill.now }
     ensures { RunsEvents drill.now result }
 {
     let mut world = World::start(alloc, &drill.setting)?;

@@ -13,18 +13,20 @@ use std::rt::Files;
 pub struct FolderHouse<'a, R> {
     rt: &'a R,
     folder: &'a str,
+    reads: u64,
     ended: bool,
     faults: u64,
 }
 
 impl<'a, R> FolderHouse<'a, R> {
-    /// The house on that folder, whose faults are counted from 0.
+    /// The house on that folder, whose readings and faults are counted from 0.
     pub fn new(rt: &'a R, folder: &'a str) -> FolderHouse<'a, R>
-        ensures { (result.faults ≡ 0) × (result.ended ≡ false) }
+        ensures { (result.reads ≡ 0) × (result.faults ≡ 0) × (result.ended ≡ false) }
     {
         FolderHouse {
             rt,
             folder,
+            reads: 0,
             ended: false,
             faults: 0,
         }
@@ -35,10 +37,11 @@ impl<'a, R: Files> Inputs for FolderHouse<'a, R>
 where
     R::File: Drop,
 {
-    ghost seen = { λ s. record { texts = None; ended = s.ended; faults = s.faults } };
+    ghost seen = { λ s. record { texts = None; reads = s.reads; ended = s.ended; faults = s.faults } };
 
     fn input(&mut self, alloc: Global, name: &str) -> Result<Bytes, ReadError> {
         self.ended = false;
+        self.reads = self.reads.saturating_add(1);
         let path = PathBuf::from_str(alloc, self.folder)?.join(alloc, name)?;
         let Ok(file) = fs::open(self.rt, path.as_path()) else {
             self.faults = self.faults.saturating_add(1);

@@ -6,10 +6,12 @@ mod drills;
 mod hashes;
 pub mod house;
 mod input;
+pub mod law;
 mod tell;
 pub mod top;
 
 pub use house::FolderHouse;
+pub use law::one_answer;
 pub use top::{audit, drill, hash_listing, run};
 
 #[cfg(test)]

@@ -1,16 +1,15 @@
 //! The calls of the program.
 
 ghost use Rattle.std.specs.Prelude.{◌≡◌, Some};
-ghost use Rattle.std.specs.Str.{IsUtf8};
 ghost use Rattle.ms_base.specs.Outside.{outside};
 ghost use Rattle.ms_top.specs.Answers.{ByCommand, Carries};
 ghost use Rattle.ms_top.specs.Runs.{Runs};
-ghost use Rattle.ms_words.specs.Commands.{command_of, command_with, word_texts, IsText};
+ghost use Rattle.ms_words.specs.Commands.{command_of, command_with, word_texts};
 ghost use Rattle.ms_words.specs.declared.command.Command.TheVariants as commands;
 
 use crate::input::on_input;
 use crate::tell::tell;
-use ms_base::{Bytes, Gate, Inputs, Sink};
+use ms_base::{Gate, Inputs, Sink};
 use ms_record::Refusal;
 use ms_words::{Command, Report, Verb, WordsError, read_words};
 use std::alloc::Global;
@@ -92,23 +91,11 @@ fn answer<H: Inputs>(alloc: Global, words: &[String], house: &mut H) -> Result<R
 
 /// What a command answers.
 fn carry_out<H: Inputs>(alloc: Global, command: &Command, house: &mut H) -> Result<Report, Refusal>
-    requires { IsText command.now }
     ensures { ByCommand (Some command.now) (outside H.seen house.old) (outside H.seen house.new) result }
 {
     match command {
-        Command::Audit { file } => on_input(alloc, Verb::Audit, text_of_name(file), house),
-        Command::Drill { file } => on_input(alloc, Verb::Drill, text_of_name(file), house),
-        Command::Hash { file } => on_input(alloc, Verb::Hash, text_of_name(file), house),
-    }
-}
-
-/// A name in a command, as text.
-fn text_of_name(name: &Bytes) -> &str
-    requires { IsUtf8 name.now }
-    ensures { result.now ≡ name.now }
-{
-    match str::from_utf8(name.as_slice()) {
-        Ok(text) => text,
-        Err(_) => unreachable!(),
+        Command::Audit { file } => on_input(alloc, Verb::Audit, file.as_str(), house),
+        Command::Drill { file } => on_input(alloc, Verb::Drill, file.as_str(), house),
+        Command::Hash { file } => on_input(alloc, Verb::Hash, file.as_str(), house),
     }
 }

@@ -2,7 +2,6 @@
 use Rattle.std.specs.Prelude.{◌≡◌, ℕ, ◌==◌, bytes_eq, codes, map, List, [], ◌∷◌, Option, Some, None, IsSome, Result, Ok, Err, slice_index, if◌then◌else◌}
 use Rattle.std.specs.Prelude.{string_bytes}
 use Rattle.std.specs.Option.{option_and_then, option_map}
-use Rattle.std.specs.Str.{IsUtf8}
 use Rattle.std.specs.declared.string.String.{String}
 use Rattle.std.specs.declared.alloc.Global.{Global}
 use Rattle.ms_words.specs.declared.command.Command.{Command}
@@ -46,9 +45,3 @@ abbrev pub ReadsWords : Result Command WordsError → Option Command → Type 0
 ReadsWords (Ok command) said = said ≡ Some command
 ReadsWords (Err errors.Usage) said = said ≡ None
 ReadsWords (Err errors.NoMemory) said = IsSome said
-
--- the names in a command are text
-abbrev pub IsText : Command → Type 0
-IsText (Audit file) = IsUtf8 file
-IsText (Drill file) = IsUtf8 file
-IsText (Hash file) = IsUtf8 file

@@ -1,20 +1,19 @@
 //! What the program is asked to do.
 
-ghost use Rattle.std.specs.Prelude.{◌≡◌, IfOk};
-ghost use Rattle.std.specs.Str.{IsUtf8};
+ghost use Rattle.std.specs.Prelude.{◌≡◌};
 ghost use Rattle.std.specs.Option.{option_map};
-ghost use Rattle.ms_words.specs.Commands.{ReadsWords, command_of, command_with, word_texts, one_file, verb_of, IsText};
+ghost use Rattle.ms_words.specs.Commands.{ReadsWords, command_of, command_with, word_texts, one_file, verb_of};
 ghost use Rattle.ms_words.specs.declared.command.WordsError.TheVariants as errors;
 
-use ms_base::{Bytes, NoMemory};
+use ms_base::{NoMemory, Text};
 use std::alloc::Global;
 
 /// What the program is asked to do: the words after its name, `docs/FORMATS.md`, commands.
 #[derive(Drop)]
 pub enum Command {
-    Audit { file: Bytes },
-    Drill { file: Bytes },
-    Hash { file: Bytes },
+    Audit { file: Text },
+    Drill { file: Text },
+    Hash { file: Text },
 }
 
 /// Why words are no command.
@@ -44,8 +43,7 @@ pub enum Verb {
 /// The command of the words. Memory is taken only for a command.
 #[tactic(auto, unfolding(crate::specs::Commands::command_of))]
 pub fn read_words(alloc: Global, words: &[String]) -> Result<Command, WordsError>
-    ensures exact { ReadsWords result (command_of (word_texts words.now)) }
-    ensures text { IfOk result IsText }
+    ensures { ReadsWords result (command_of (word_texts words.now)) }
 {
     let [word, rest @ ..] = words else {
         return Err(WordsError::Usage);
@@ -56,7 +54,7 @@ pub fn read_words(alloc: Global, words: &[String]) -> Result<Command, WordsError
     let Some(file) = one_file(rest) else {
         return Err(WordsError::Usage);
     };
-    let file = Bytes::of(alloc, file.as_bytes())?;
+    let file = Text::of(alloc, file)?;
     Ok(command_with(verb, file))
 }
 
@@ -74,9 +72,8 @@ fn verb_of(word: &str) -> Option<Verb>
     }
 }
 
-fn command_with(verb: Verb, file: Bytes) -> Command
-    ensures is { result ≡ command_with verb file }
-    ensures text { IsUtf8 file → IsText result }
+fn command_with(verb: Verb, file: Text) -> Command
+    ensures { result ≡ command_with verb file }
 {
     match verb {
         Verb::Audit => Command::Audit { file },

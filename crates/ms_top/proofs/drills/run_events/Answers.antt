@@ -6,7 +6,7 @@ pub returns-in_err-step : goal.returns-in_err-step
 returns-in_err-step c =
     let p = err_from_is_err_and c.from_residual-in_err-step.result c.from_residual-in_err-step.ensures.1 in
     rw (p.1, p.2)
-    (stops c.args.drill.now c.as_slice-event-items.result.now c.loop-event.event-index c.event-item.result c.loop-event.world _ _ c.in_err-step.field-0.0 c.as_slice-event-items.ensures c.loop-event-test.true c.event-item.is
+    (stops c.args.drill.now c.as_slice-event-items.result.now c.loop-event.event-index c.event-item.result c.loop-event.world _ _ c.in_err-step.field-0.0 c.requires c.as_slice-event-items.ensures c.loop-event-test.true c.event-item.is
     c.loop-event.invariant c.step.ensures c.in_err-step.was)
 
 pub loop-event-preserved : goal.loop-event-preserved
