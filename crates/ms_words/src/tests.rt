@@ -29,7 +29,7 @@ fn is_command(alloc: Global, text: &str, verb: Verb, name: &str) -> bool {
         Ok(Command::Hash { file }) => (Verb::Hash, file),
         Err(_) => return false,
     };
-    read == verb && file.as_slice() == name.as_bytes()
+    read == verb && file.as_str() == name
 }
 
 #[test]
