@@ -2,7 +2,7 @@
 
 ghost use Rattle.std.specs.Prelude.{◌≡◌, ◌<◌, ◌≤◌, ◌+◌, ◌++◌, false, [], length, take, drop, min, Some, None, Ok, Err, IfSome, MatchOption, IsErr, IsTrue, ◌↔◌, slice_get, OnErr, OnOk, IfOk, is_err};
 ghost use Rattle.std.specs.Option.{option_map};
-ghost use Rattle.ms_base.specs.Counts.{Causes, Rose, one_more};
+ghost use Rattle.ms_base.specs.Counts.{Causes};
 ghost use Rattle.ms_base.specs.Memory.{OrWant, after_call, first_calls, given_input, has_failed, inputs_of, is_due, pairs_of, sink_of, source_of};
 ghost use Rattle.ms_base.specs.Reading.{GivesInput, StaysUnlessFailed};
 ghost use Rattle.ms_base.specs.Outside.{shows_end, text_named};

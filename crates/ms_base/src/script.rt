@@ -1,8 +1,8 @@
 //! Calls that fail as they are told.
 
 ghost use Rattle.std.specs.Prelude.{◌≡◌, ◌≤◌, IsTrue};
-ghost use Rattle.ms_base.specs.Counts.{Causes, Rose};
-ghost use Rattle.ms_base.specs.Memory.{after_call, first_calls, is_due, one_more};
+ghost use Rattle.ms_base.specs.Counts.{Causes, Rose, one_more};
+ghost use Rattle.ms_base.specs.Memory.{after_call, first_calls, is_due};
 
 use std::marker::Model;
 
