@@ -45,6 +45,12 @@ use Rattle.ms_top.specs.Steps.{OfValue}
 use Rattle.ms_top.specs.Telling.{Tells, Writes, report_of}
 use Rattle.ms_top.proofs.Running.{steps_more}
 
+abbrev answered : Report → Result Report Refusal
+answered report = Ok report
+
+abbrev refused : Refusal → Result Report Refusal
+refused refusal = Err refusal
+
 some_one : {A : Type 0} (a b : A) → Some a ≡ Some b → a ≡ b
 some_one a b e = cc
 
@@ -129,10 +135,10 @@ module _
 name_one : (g h : Name) → g.0 ≡ h.0 → g ≡ h
 name_one g h e = ap (λ (x : List ℕ). let n : Name = record { 0 = x } in n) e
 
-drill_one : (g h : Name) (es fs : List Entry) (ks ls : List ℕ) → g ≡ h → es ≡ fs → ks ≡ ls → Ok (reports.Drill g es ks) ≡ Ok (reports.Drill h fs ls)
+drill_one : (g h : Name) (es fs : List Entry) (ks ls : List ℕ) → g ≡ h → es ≡ fs → ks ≡ ls → answered (reports.Drill g es ks) ≡ answered (reports.Drill h fs ls)
 drill_one g h es fs ks ls a b c = cc
 
-stop_one : (m n : ℕ) (x y : Why) → m ≡ n → x ≡ y → Err (refusals.NotEnabled m x) ≡ Err (refusals.NotEnabled n y)
+stop_one : (m n : ℕ) (x y : Why) → m ≡ n → x ≡ y → refused (refusals.NotEnabled m x) ≡ refused (refusals.NotEnabled n y)
 stop_one m n x y a b = cc
 
 -- one list is the longest
@@ -152,7 +158,7 @@ module _ (laws : Outcomes) (drill : DrillOf) where
   begun : IsReached drill.setting (start_world drill.setting)
   begun = record { events = []; fit = All-nil IsEvent; run = refl }
 
-  wholes : (g h : Name) (es fs : List Entry) (ks ls : List ℕ) → RunsWhole drill g es ks → RunsWhole drill h fs ls → Ok (reports.Drill g es ks) ≡ Ok (reports.Drill h fs ls)
+  wholes : (g h : Name) (es fs : List Entry) (ks ls : List ℕ) → RunsWhole drill g es ks → RunsWhole drill h fs ls → answered (reports.Drill g es ks) ≡ answered (reports.Drill h fs ls)
   wholes g h es fs ks ls a b =
       let set = a.ranges.setting in
       let fit = a.ranges.events in
@@ -167,7 +173,7 @@ module _ (laws : Outcomes) (drill : DrillOf) where
   whole_stops g es ks number why a b =
       whole_or_stops laws.step laws.refusal laws.apart drill.setting a.ranges.setting drill.events b.before b.rest b.event (start_world drill.setting) a.world b.world why a.ranges.events begun b.all a.run b.run b.refused
 
-  stops_one : (number again : ℕ) (why other : Why) → StopsAt drill number why → StopsAt drill again other → Err (refusals.NotEnabled number why) ≡ Err (refusals.NotEnabled again other)
+  stops_one : (number again : ℕ) (why other : Why) → StopsAt drill number why → StopsAt drill again other → refused (refusals.NotEnabled number why) ≡ refused (refusals.NotEnabled again other)
   stops_one number again why other a b =
       let fit = subst (λ (xs : List Event). All IsEvent xs) a.all a.ranges.events in
       let h = one_stop laws.step laws.refusal laws.apart drill.setting a.ranges.setting a.before b.before a.rest b.rest a.event b.event (start_world drill.setting) a.world b.world why other fit begun
@@ -182,7 +188,7 @@ module _ (laws : Outcomes) (drill : DrillOf) where
 
 -- ---- what a listing is answered with
 
-hash_one : (m n objects different : ℕ) (root other : Name) → m ≡ n → objects ≡ different → root ≡ other → Ok (reports.Hash m objects root) ≡ Ok (reports.Hash n different other)
+hash_one : (m n objects different : ℕ) (root other : Name) → m ≡ n → objects ≡ different → root ≡ other → answered (reports.Hash m objects root) ≡ answered (reports.Hash n different other)
 hash_one m n objects different root other a b c = cc
 
 module _ (files : FileList) where
@@ -191,7 +197,7 @@ module _ (files : FileList) where
 
   large_one : (r s : Result Report Refusal) → IsTooLarge files r → IsTooLarge files s → r ≡ s
   large_one r s a b =
-      a.is ∙ ap (λ (n : ℕ). let result : Result Report Refusal = Err (refusals.Limit quantities.File n) in result) (some_one a.bytes b.bytes (sym a.first ∙ b.first)) ∙ sym b.is
+      a.is ∙ ap (λ (n : ℕ). refused (refusals.Limit quantities.File n)) (some_one a.bytes b.bytes (sym a.first ∙ b.first)) ∙ sym b.is
 
   small_or_large : (r s : Result Report Refusal) → HashIs files r → IsTooLarge files s → ⊥
   small_or_large r s a b = let q : None ≡ Some b.bytes = sym a.3.small ∙ b.first in absurd (cc q)
@@ -251,7 +257,7 @@ module _ {A : Type 0} (C : Type 0) (spelled : List ℕ → Result A Refusal) (Sa
   value_alike text r s h jr js (inl e) b = absurd (jr.memory (ap (λ (x : Result Report Refusal). status_of (report_of x)) e))
   value_alike text r s h jr js a (inl e) = absurd (js.memory (ap (λ (x : Result Report Refusal). status_of (report_of x)) e))
   value_alike text r s h jr js (inr (inl (f, spells, e))) (inr (inl (g, also, k))) =
-      inl (e ∙ ap (λ (x : Refusal). let result : Result Report Refusal = Err x in result) (err_one f g (spelled text) spells also) ∙ sym k)
+      inl (e ∙ ap refused (err_one f g (spelled text) spells also) ∙ sym k)
   value_alike text r s h jr js (inr (inl (f, spells, e))) (inr (inr (x, also, says))) = not_both x f (spelled text) also spells
   value_alike text r s h jr js (inr (inr (x, spells, says))) (inr (inl (g, also, k))) = not_both x g (spelled text) spells also
   value_alike text r s h jr js (inr (inr (x, spells, says))) (inr (inr (y, also, too))) =
@@ -261,7 +267,7 @@ module _ {A : Type 0} (C : Type 0) (spelled : List ℕ → Result A Refusal) (Sa
   input_alike new other r s jr js (inl (f, reads, e)) (inl (g, also, k)) =
       let a = refused_long new.inputs f (judged_as r (Err f) e jr) reads.gives in
       let b = refused_long other.inputs g (judged_as s (Err g) k js) also.gives in
-      inl (e ∙ ap (λ (x : Refusal). let result : Result Report Refusal = Err x in result) (a.is ∙ sym b.is) ∙ sym k)
+      inl (e ∙ ap refused (a.is ∙ sym b.is) ∙ sym k)
   input_alike new other r s jr js (inl (f, reads, e)) (inr (text, mid, also, says)) =
       absurd (long_or_short text (refused_long new.inputs f (judged_as r (Err f) e jr) reads.gives).long also.gives.text_of also.gives.short)
   input_alike new other r s jr js (inr (text, mid, reads, says)) (inl (g, also, k)) =
