@@ -1,20 +1,25 @@
 -- A list of votes that goes on by one record: what it shows, and what it has taken.
-use Rattle.std.proofs.Common.{◌≡◌, ◌≢◌, ℕ, ◌+◌, ◌<◌, ◌≤◌, Bool, true, false, ◌&&◌, nat_eq, List, [], ◌∷◌, ◌++◌, Option, Some, None, Result, Ok, Err, OnOk, ◌⊎◌, inl, inr, refl, sym, ap, ◌∙◌, subst, slice_get, length, option_to_list, Contains, take, drop, get_or, append_assoc, take-append-drop, arith}
+use Rattle.std.proofs.Common.{◌≡◌, ◌≢◌, ℕ, ◌+◌, ◌<◌, ◌≤◌, Bool, true, false, ◌&&◌, nat_eq, List, [], ◌∷◌, ◌++◌, Option, Some, None, Result, Ok, Err, OnOk, IfSome, IfNone, ◌⊎◌, inl, inr, refl, sym, ap, ◌∙◌, subst, slice_get, length, option_to_list, Contains, take, drop, get_or, append_assoc, take-append-drop, arith}
 use Rattle.std.proofs.lemmas.Bool.Decides.{nat_tests}
-use Rattle.std.proofs.lemmas.List.{append-nil, length_push, take_more}
+use Rattle.std.proofs.lemmas.List.{append-nil, take_more}
 use Rattle.std.proofs.lemmas.List.Elements.{Contains-append_left, Contains-push, Contains-push_cases}
 use Rattle.std.proofs.lemmas.Option.{get_or_from_slice_get, slice_get_within}
-use Rattle.ms_world.specs.Passes.{IsTop, Counts, IsUnshown, AreRising, IsReadOf}
+use Rattle.ms_world.specs.Passes.{IsUnshown, AreRising, AreTaken, IsReadOf}
 use Rattle.ms_world.specs.Steps.{IsShown}
 use Rattle.ms_record.specs.Growing.{votes_append}
 use Rattle.ms_core.proofs.Places.{some_same, append_left, append_cases, alone}
+use Rattle.ms_record.specs.declared.acceptor.Acceptor.{Acceptor}
+use Rattle.ms_record.specs.declared.acceptor.Verdict.{Verdict}
+use Rattle.ms_record.specs.declared.acceptor.Verdict.TheVariants.{Promised, Taken, Outbid, Elsewhere}
 use Rattle.ms_record.specs.declared.ballot.Ballot.{Ballot}
 use Rattle.ms_record.specs.declared.ballot.Vote.{Vote}
 use Rattle.ms_record.specs.declared.entry.Entry.{Entry}
 use Rattle.ms_record.specs.declared.log.LogEvent.{LogEvent}
 use Rattle.ms_record.specs.declared.record.Record.{Record}
 use Rattle.ms_record.specs.declared.record.Record.TheVariants.{Prepare, Accept}
+use Rattle.ms_record.specs.Acceptors.{IsAcceptorOf, IsVerdict, TakesNext}
 use Rattle.ms_record.specs.Ballots.{IsAtMost}
+use Rattle.ms_record.specs.Pushing.{outbid_not_promised, outbid_not_taken}
 use Rattle.ms_record.specs.Logs.{votes_in}
 use Rattle.ms_record.specs.Votes.{position_of, ballot_of, NoneAbove, IsPromised, IsTaken, IsBest}
 
@@ -80,80 +85,18 @@ place_cases xs r m i h =
       | inr t ↦ inr (omega (arith, t.1, (alone r m t.0 t.2).0))
     ]
 
--- what is promised or taken at the new place counts
-counts_promised : (xs : List Record) (r : Record) (k : ℕ) (b : Ballot) → IsPromised (xs ++ r ∷ []) (length xs) k b → Counts xs k r
-counts_promised xs r k b h =
-    let q : Prepare k b ≡ r = sym (next_is xs [] r (Prepare k b) h.stands) in
-    subst (λ (m : Record). Counts xs k m) q (record { here = refl; none_above = none_above_back xs (r ∷ []) (length xs) k b h.none_above })
-
-counts_taken : (xs : List Record) (r : Record) (k : ℕ) (b : Ballot) (e : Entry) → IsTaken (xs ++ r ∷ []) (length xs) k b e → Counts xs k r
-counts_taken xs r k b e h =
-    let q : Accept k b e ≡ r = sym (next_is xs [] r (Accept k b e) h.stands) in
-    subst (λ (m : Record). Counts xs k m) q (record { here = refl; none_above = none_above_back xs (r ∷ []) (length xs) k b h.none_above })
-
--- an Accept that counts is taken, whatever comes behind it
-taken_next : (xs ys : List Record) (r : Record) (k : ℕ) (b : Ballot) (e : Entry) → r ≡ Accept k b e → Counts xs k r → IsTaken (xs ++ r ∷ ys) (length xs) k b e
-taken_next xs ys r k b e is h = record {
-  stands = stands_next xs ys r ∙ ap (λ (m : Record). Some m) is;
-  none_above = none_above_on xs (r ∷ ys) (length xs) k b (omega arith) (subst (λ (c : Ballot). NoneAbove xs (length xs) k c) (ap ballot_of is) h.none_above);
-}
-
-promised_next : (xs ys : List Record) (r : Record) (k : ℕ) (b : Ballot) → r ≡ Prepare k b → Counts xs k r → IsPromised (xs ++ r ∷ ys) (length xs) k b
-promised_next xs ys r k b is h = record {
-  stands = stands_next xs ys r ∙ ap (λ (m : Record). Some m) is;
-  none_above = none_above_on xs (r ∷ ys) (length xs) k b (omega arith) (subst (λ (c : Ballot). NoneAbove xs (length xs) k c) (ap ballot_of is) h.none_above);
+-- what is promised at the new place is so whatever comes behind it
+promised_more : (xs ys : List Record) (r : Record) (k : ℕ) (b : Ballot) → IsPromised (xs ++ r ∷ []) (length xs) k b → IsPromised (xs ++ r ∷ ys) (length xs) k b
+promised_more xs ys r k b h = record {
+  stands = stands_next xs ys r ∙ ap (λ (m : Record). Some m) (next_is xs [] r (Prepare k b) h.stands);
+  none_above = none_above_on xs (r ∷ ys) (length xs) k b (omega arith) (none_above_back xs (r ∷ []) (length xs) k b h.none_above);
 }
 
 -- nothing is taken at the new place
 abbrev NotTaken : List Record → Record → ℕ → Type 0
 NotTaken xs r k = (b : Ballot) (e : Entry) → IsTaken (xs ++ r ∷ []) (length xs) k b e → ⊥
 
--- the Best stays, where the new record is not taken
-best_keeps : (xs : List Record) (r : Record) (k : ℕ) (best : Option Vote) → NotTaken xs r k → IsBest xs k (length xs) best → IsBest (xs ++ r ∷ []) k (length (xs ++ r ∷ [])) best
-best_keeps xs r k None free h = λ i b e l t.
-    elim (place_cases xs r (Accept k b e) i t.stands) [
-      | inl o ↦ h i b e o (taken_back xs (r ∷ []) i k b e o t)
-      | inr n ↦ free b e (subst (λ (p : ℕ). IsTaken (xs ++ r ∷ []) p k b e) n t)
-    ]
-best_keeps xs r k (Some v) free h = record {
-  at = h.at;
-  before = omega (arith, length_push xs r, h.before);
-  taken = taken_on xs (r ∷ []) h.at k v.ballot v.entry h.taken;
-  greatest = λ i b e l t. elim (place_cases xs r (Accept k b e) i t.stands) [
-    | inl o ↦ h.greatest i b e o (taken_back xs (r ∷ []) i k b e o t)
-    | inr n ↦ absurd (free b e (subst (λ (p : ℕ). IsTaken (xs ++ r ∷ []) p k b e) n t))
-  ];
-  last = λ i e l t. elim (place_cases xs r (Accept k v.ballot e) i t.stands) [
-    | inl o ↦ h.last i e o (taken_back xs (r ∷ []) i k v.ballot e o t)
-    | inr n ↦ absurd (free v.ballot e (subst (λ (p : ℕ). IsTaken (xs ++ r ∷ []) p k v.ballot e) n t))
-  ];
-}
-
--- what is taken at the end is the Best
-best_takes : (xs : List Record) (r : Record) (k : ℕ) (b : Ballot) (e : Entry) → r ≡ Accept k b e → Counts xs k r
-    → IsBest (xs ++ r ∷ []) k (length (xs ++ r ∷ [])) (Some (record { ballot = b; entry = e }))
-best_takes xs r k b e is h =
-    let t = taken_next xs [] r k b e is h in
-    record {
-      at = length xs;
-      before = omega (arith, length_push xs r);
-      taken = t;
-      greatest = λ i c f l u. elim (place_cases xs r (Accept k c f) i u.stands) [
-        | inl o ↦ t.none_above i (Accept k c f) o u.stands refl
-        | inr n ↦
-            let q : Accept k b e ≡ Accept k c f = sym is ∙ next_is xs [] r (Accept k c f) (subst (λ (p : ℕ). slice_get (xs ++ r ∷ []) p ≡ Some (Accept k c f)) n u.stands) in
-            subst (λ (x : Ballot). IsAtMost x b) (ap ballot_of q) (omega arith, λ _. omega arith)
-      ];
-      last = λ i f l u. omega (arith, length_push xs r);
-    }
-
 -- ---- a search for the first promise
-
-not_counted : (xs : List Record) (r : Record) (k : ℕ) → (Counts xs k r → ⊥) → NotTaken xs r k
-not_counted xs r k out b e t = out (counts_taken xs r k b e t)
-
-prepare_not_taken : (xs : List Record) (r : Record) (k p : ℕ) (c : Ballot) → r ≡ Prepare p c → NotTaken xs r k
-prepare_not_taken xs r k p c is b e t = (let q : Prepare p c ≡ Accept k b e = sym is ∙ next_is xs [] r (Accept k b e) t.stands in cc)
 
 unshown_next : (xs : List Record) (r : Record) (k : ℕ) (b : Ballot) → (IsPromised (xs ++ r ∷ []) (length xs) k b → ⊥) → IsShown xs k b None → IsShown (xs ++ r ∷ []) k b None
 unshown_next xs r k b out h = λ p t.
@@ -162,44 +105,42 @@ unshown_next xs r k b out h = λ p t.
       | inr n ↦ out (subst (λ (i : ℕ). IsPromised (xs ++ r ∷ []) i k b) n t)
     ]
 
--- a record that does not count shows nothing
-pub passes_uncounted : (xs : List Record) (r : Record) (k : ℕ) (b : Ballot) (top new : Option Ballot) (best : Option Vote) → (Counts xs k r → ⊥) → IsTop (xs ++ r ∷ []) k new → IsUnshown xs k b top best
-    → IsUnshown (xs ++ r ∷ []) k b new best
-passes_uncounted xs r k b top new best out top_is h = record {
-  top_is = top_is;
-  best_is = best_keeps xs r k best (not_counted xs r k out) h.best_is;
-  unshown = unshown_next xs r k b (λ t. out (counts_promised xs r k b t)) h.unshown;
+-- a record is a promised Prepare of the ballot only by a verdict that says so
+pub not_promised : (xs : List Record) (r : Record) (k : ℕ) (b : Ballot) (v : Verdict) → IsVerdict xs r k v → ((best : Option Vote) → v ≡ Promised best → ballot_of r ≡ b → ⊥) → IsPromised (xs ++ r ∷ []) (length xs) k b → ⊥
+not_promised xs r k b (Promised best) h other t = other best refl (ap ballot_of (next_is xs [] r (Prepare k b) t.stands))
+not_promised xs r k b Taken h other t = (let q : Accept k h.ballot h.entry ≡ Prepare k b = sym (next_is xs [] r (Accept k h.ballot h.entry) h.taken.stands) ∙ next_is xs [] r (Prepare k b) t.stands in cc)
+not_promised xs r k b (Outbid top) h other t = outbid_not_promised xs r k top h.1 h.2 b t
+not_promised xs r k b Elsewhere h other t = h (ap position_of (next_is xs [] r (Prepare k b) t.stands))
+
+-- a record is taken only by a verdict that says so
+pub not_taken : (xs : List Record) (r : Record) (k : ℕ) (v : Verdict) → IsVerdict xs r k v → (v ≡ Taken → ⊥) → NotTaken xs r k
+not_taken xs r k (Promised best) h other b e t = (let q : Prepare k h.0.ballot ≡ Accept k b e = sym (next_is xs [] r (Prepare k h.0.ballot) h.0.promised.stands) ∙ next_is xs [] r (Accept k b e) t.stands in cc)
+not_taken xs r k Taken h other b e t = other refl
+not_taken xs r k (Outbid top) h other b e t = outbid_not_taken xs r k top h.1 h.2 b e t
+not_taken xs r k Elsewhere h other b e t = h (ap position_of (next_is xs [] r (Accept k b e) t.stands))
+
+-- a record that is no promised Prepare of the ballot shows nothing
+pub passes : (xs : List Record) (r : Record) (b : Ballot) (a new : Acceptor) → new.position ≡ a.position → IsAcceptorOf (xs ++ r ∷ []) new → (IsPromised (xs ++ r ∷ []) (length xs) a.position b → ⊥) → IsUnshown xs b a
+    → IsUnshown (xs ++ r ∷ []) b new
+passes xs r b a new same read out h = record {
+  read = read;
+  unshown = subst (λ (k : ℕ). IsShown (xs ++ r ∷ []) k b None) (sym same) (unshown_next xs r a.position b out h.unshown);
 }
 
--- nor does a Prepare of another ballot
-pub passes_other : (xs : List Record) (r : Record) (k p : ℕ) (b c : Ballot) (top new : Option Ballot) (best : Option Vote) → r ≡ Prepare p c → c ≢ b → IsTop (xs ++ r ∷ []) k new → IsUnshown xs k b top best
-    → IsUnshown (xs ++ r ∷ []) k b new best
-passes_other xs r k p b c top new best is other top_is h = record {
-  top_is = top_is;
-  best_is = best_keeps xs r k best (prepare_not_taken xs r k p c is) h.best_is;
-  unshown = unshown_next xs r k b (λ t. let q : Prepare p c ≡ Prepare k b = sym is ∙ next_is xs [] r (Prepare k b) t.stands in other (ap ballot_of q)) h.unshown;
-}
-
--- an Accept that counts is the Best from there on
-pub passes_accept : (xs : List Record) (r : Record) (k p : ℕ) (b c : Ballot) (e : Entry) (top new : Option Ballot) (best : Option Vote) → r ≡ Accept p c e → Counts xs k r → IsTop (xs ++ r ∷ []) k new
-    → IsUnshown xs k b top best → IsUnshown (xs ++ r ∷ []) k b new (Some (record { ballot = c; entry = e }))
-passes_accept xs r k p b c e top new best is h top_is u =
-    let here : p ≡ k = sym (ap position_of is) ∙ h.here in
-    record {
-      top_is = top_is;
-      best_is = best_takes xs r k c e (is ∙ ap (λ (n : ℕ). Accept n c e) here) h;
-      unshown = unshown_next xs r k b (λ t. let q : Accept p c e ≡ Prepare k b = sym is ∙ next_is xs [] r (Prepare k b) t.stands in cc) u.unshown;
-    }
-
--- a Prepare of the ballot that counts is the first promised one
-pub shows_prepare : (xs ys : List Record) (r : Record) (k p : ℕ) (b c : Ballot) (top : Option Ballot) (best : Option Vote) → r ≡ Prepare p c → c ≡ b → Counts xs k r → IsUnshown xs k b top best
-    → IsShown (xs ++ r ∷ ys) k b (Some best)
-shows_prepare xs ys r k p b c top best is same h u =
-    let here : p ≡ k = sym (ap position_of is) ∙ h.here in
-    let q : r ≡ Prepare k b = is ∙ ap (λ (n : ℕ). Prepare n c) here ∙ ap (λ (x : Ballot). Prepare k x) same in (
+-- a promised Prepare of the ballot is the first one
+pub shows : (xs ys : List Record) (r : Record) (b : Ballot) (a : Acceptor) (v : Verdict) (best : Option Vote) → v ≡ Promised best → IsVerdict xs r a.position v → ballot_of r ≡ b → IsUnshown xs b a
+    → IsShown (xs ++ r ∷ ys) a.position b (Some best)
+shows xs ys r b a v best is verdict same h =
+    let k = a.position in
+    let fact = subst (λ (x : Verdict). IsVerdict xs r k x) is verdict in
+    let at : r ≡ Prepare k fact.0.ballot = next_is xs [] r (Prepare k fact.0.ballot) fact.0.promised.stands in
+    let ballots : fact.0.ballot ≡ b = sym (ap ballot_of at) ∙ same in (
       length xs,
-      record { promised = promised_next xs ys r k b q h; first = λ i l t. u.unshown i (promised_back xs (r ∷ ys) i k b l t) },
-      best_on xs (r ∷ ys) k (length xs) best (omega arith) u.best_is,
+      record {
+        promised = subst (λ (c : Ballot). IsPromised (xs ++ r ∷ ys) (length xs) k c) ballots (promised_more xs ys r k fact.0.ballot fact.0.promised);
+        first = λ i l t. h.unshown i (promised_back xs (r ∷ ys) i k b l t);
+      },
+      best_on xs (r ∷ ys) k (length xs) best (omega arith) fact.1,
     )
 
 -- ---- the votes that were taken
@@ -218,57 +159,64 @@ rising_push votes vote old top i j v w l av aw =
           ])
     ]
 
-pub reads_nothing : (xs : List Record) (r : Record) (k : ℕ) (top new : Option Ballot) (votes : List Vote) → NotTaken xs r k → IsTop (xs ++ r ∷ []) k new → IsReadOf xs k top votes → IsReadOf (xs ++ r ∷ []) k new votes
-reads_nothing xs r k top new votes free top_is h = record {
-  top_is = top_is;
-  are_taken = record {
-    taken = λ v c. let t = h.are_taken.taken v c in (t.0, taken_on xs (r ∷ []) t.0 k v.ballot v.entry t.1);
-    kept = λ p b e t. elim (place_cases xs r (Accept k b e) p t.stands) [
-      | inl o ↦ h.are_taken.kept p b e (taken_back xs (r ∷ []) p k b e o t)
-      | inr n ↦ absurd (free b e (subst (λ (i : ℕ). IsTaken (xs ++ r ∷ []) i k b e) n t))
-    ];
-    rising = h.are_taken.rising;
-  };
-}
+-- what is taken is an Accept
+pub takes_accept : (xs : List Record) (r : Record) (k : ℕ) (t : TakesNext xs r k) → r ≡ Accept k t.ballot t.entry
+takes_accept xs r k t = next_is xs [] r (Accept k t.ballot t.entry) t.taken.stands
 
-pub reads_uncounted : (xs : List Record) (r : Record) (k : ℕ) (top new : Option Ballot) (votes : List Vote) → (Counts xs k r → ⊥) → IsTop (xs ++ r ∷ []) k new → IsReadOf xs k top votes → IsReadOf (xs ++ r ∷ []) k new votes
-reads_uncounted xs r k top new votes out = reads_nothing xs r k top new votes (not_counted xs r k out)
-
-pub reads_prepare : (xs : List Record) (r : Record) (k p : ℕ) (c : Ballot) (top new : Option Ballot) (votes : List Vote) → r ≡ Prepare p c → IsTop (xs ++ r ∷ []) k new → IsReadOf xs k top votes → IsReadOf (xs ++ r ∷ []) k new votes
-reads_prepare xs r k p c top new votes is = reads_nothing xs r k top new votes (prepare_not_taken xs r k p c is)
-
-pub reads_accept : (xs : List Record) (r : Record) (k p : ℕ) (c : Ballot) (e : Entry) (top new : Option Ballot) (votes : List Vote) → r ≡ Accept p c e → Counts xs k r → IsTop (xs ++ r ∷ []) k new → IsReadOf xs k top votes
-    → IsReadOf (xs ++ r ∷ []) k new (votes ++ record { ballot = c; entry = e } ∷ [])
-reads_accept xs r k p c e top new votes is h top_is old =
-    let here : p ≡ k = sym (ap position_of is) ∙ h.here in
-    let q : r ≡ Accept k c e = is ∙ ap (λ (n : ℕ). Accept n c e) here in
-    let vote : Vote = record { ballot = c; entry = e } in
+pub reads_nothing : (xs : List Record) (r : Record) (a new : Acceptor) (votes : List Vote) → new.position ≡ a.position → IsAcceptorOf (xs ++ r ∷ []) new → NotTaken xs r a.position → IsReadOf xs a votes
+    → IsReadOf (xs ++ r ∷ []) new votes
+reads_nothing xs r a new votes same read free h =
+    let k = a.position in
     record {
-      top_is = top_is;
-      are_taken = record {
-        taken = λ v there. elim (Contains-push_cases votes vote v there) [
-          | inl o ↦ (let t = old.are_taken.taken v o in (t.0, taken_on xs (r ∷ []) t.0 k v.ballot v.entry t.1))
-          | inr n ↦ (length xs, subst (λ (w : Vote). IsTaken (xs ++ r ∷ []) (length xs) k w.ballot w.entry) n (taken_next xs [] r k c e q h))
+      read = read;
+      are_taken = subst (λ (n : ℕ). AreTaken (xs ++ r ∷ []) n votes) (sym same) (record {
+        taken = λ v c. let t = h.are_taken.taken v c in (t.0, taken_on xs (r ∷ []) t.0 k v.ballot v.entry t.1);
+        kept = λ p b e t. elim (place_cases xs r (Accept k b e) p t.stands) [
+          | inl o ↦ h.are_taken.kept p b e (taken_back xs (r ∷ []) p k b e o t)
+          | inr n ↦ absurd (free b e (subst (λ (i : ℕ). IsTaken (xs ++ r ∷ []) i k b e) n t))
         ];
-        kept = λ i b f t. elim (place_cases xs r (Accept k b f) i t.stands) [
-          | inl o ↦ Contains-append_left votes (vote ∷ []) (record { ballot = b; entry = f }) (old.are_taken.kept i b f (taken_back xs (r ∷ []) i k b f o t))
-          | inr n ↦
-              let same : Accept k c e ≡ Accept k b f = sym q ∙ next_is xs [] r (Accept k b f) (subst (λ (j : ℕ). slice_get (xs ++ r ∷ []) j ≡ Some (Accept k b f)) n t.stands) in
-              let eb : c ≡ b = ap ballot_of same in
-              let ee : e ≡ f = cc in
-              let ev : vote ≡ record { ballot = b; entry = f } = λ j. record { ballot = eb j; entry = ee j } in
-              subst (λ (w : Vote). Contains (votes ++ vote ∷ []) w) ev (Contains-push votes vote)
-        ];
-        rising = rising_push votes vote old.are_taken.rising (λ v there.
-            let t = old.are_taken.taken v there in
-            subst (λ (x : Ballot). IsAtMost v.ballot x) (ap ballot_of q) (h.none_above t.0 (Accept k v.ballot v.entry) (slice_get_within xs t.0 (Accept k v.ballot v.entry) t.1.stands) t.1.stands refl));
-      };
+        rising = h.are_taken.rising;
+      });
     }
 
-pub reads_accept_as : (xs : List Record) (r : Record) (k p : ℕ) (c : Ballot) (e : Entry) (top new : Option Ballot) (votes more : List Vote) → r ≡ Accept p c e → Counts xs k r → IsTop (xs ++ r ∷ []) k new
-    → more ≡ votes ++ record { ballot = c; entry = e } ∷ [] → IsReadOf xs k top votes → IsReadOf (xs ++ r ∷ []) k new more
-reads_accept_as xs r k p c e top new votes more is h top_is as_is old =
-    subst (λ (vs : List Vote). IsReadOf (xs ++ r ∷ []) k new vs) (sym as_is) (reads_accept xs r k p c e top new votes is h top_is old)
+pub reads_taken : (xs : List Record) (r : Record) (k : ℕ) (votes : List Vote) (t : TakesNext xs r k) → AreTaken xs k votes → AreTaken (xs ++ r ∷ []) k (votes ++ record { ballot = t.ballot; entry = t.entry } ∷ [])
+reads_taken xs r k votes t old =
+    let q = takes_accept xs r k t in
+    let vote : Vote = record { ballot = t.ballot; entry = t.entry } in
+    record {
+      taken = λ v there. elim (Contains-push_cases votes vote v there) [
+        | inl o ↦ (let u = old.taken v o in (u.0, taken_on xs (r ∷ []) u.0 k v.ballot v.entry u.1))
+        | inr n ↦ (length xs, subst (λ (w : Vote). IsTaken (xs ++ r ∷ []) (length xs) k w.ballot w.entry) n t.taken)
+      ];
+      kept = λ i b f u. elim (place_cases xs r (Accept k b f) i u.stands) [
+        | inl o ↦ Contains-append_left votes (vote ∷ []) (record { ballot = b; entry = f }) (old.kept i b f (taken_back xs (r ∷ []) i k b f o u))
+        | inr n ↦
+            let same : Accept k t.ballot t.entry ≡ Accept k b f = sym q ∙ next_is xs [] r (Accept k b f) (subst (λ (j : ℕ). slice_get (xs ++ r ∷ []) j ≡ Some (Accept k b f)) n u.stands) in
+            let eb : t.ballot ≡ b = ap ballot_of same in
+            let ee : t.entry ≡ f = cc in
+            let ev : vote ≡ record { ballot = b; entry = f } = λ j. record { ballot = eb j; entry = ee j } in
+            subst (λ (w : Vote). Contains (votes ++ vote ∷ []) w) ev (Contains-push votes vote)
+      ];
+      rising = rising_push votes vote old.rising (λ v there.
+          let u = old.taken v there in
+          let l = slice_get_within xs u.0 (Accept k v.ballot v.entry) u.1.stands in
+          none_above_back xs (r ∷ []) (length xs) k t.ballot t.taken.none_above u.0 (Accept k v.ballot v.entry) l u.1.stands refl);
+    }
+
+pub reads_accept : (xs : List Record) (r : Record) (a new : Acceptor) (votes more : List Vote) → new.position ≡ a.position → IsAcceptorOf (xs ++ r ∷ []) new → (t : TakesNext xs r a.position)
+    → more ≡ votes ++ record { ballot = t.ballot; entry = t.entry } ∷ [] → IsReadOf xs a votes → IsReadOf (xs ++ r ∷ []) new more
+reads_accept xs r a new votes more same read t is h = record {
+  read = read;
+  are_taken = subst (λ (n : ℕ). AreTaken (xs ++ r ∷ []) n more) (sym same) (subst (λ (vs : List Vote). AreTaken (xs ++ r ∷ []) a.position vs) (sym is) (reads_taken xs r a.position votes t h.are_taken));
+}
+
+pub if_some : {A : Type 0} (o : Option A) {P Q : A → Type 0} → ((x : A) → P x → Q x) → IfSome o P → IfSome o Q
+if_some None f h = h
+if_some (Some x) f h = f x h
+
+pub if_none : {A : Type 0} (o : Option A) {P Q : Type 0} → (P → Q) → IfNone o P → IfNone o Q
+if_none None f h = f h
+if_none (Some x) f h = h
 
 pub on_ok : {T E : Type 0} (r : Result T E) {P Q : Type 0} → OnOk r P → (P → Q) → OnOk r Q
 on_ok (Ok x) h f = f h
@@ -293,25 +241,17 @@ split_item xs i x l is =
     sym (append_assoc (take i xs) (x ∷ []) (drop (i + 1) xs)) ∙ ap (λ ys. ys ++ drop (i + 1) xs) (sym (take_item xs i x l is)) ∙ take-append-drop (i + 1) xs
 
 -- a search along a log
-pub found_in : (log : List LogEvent) (i : ℕ) (event : LogEvent) (q k : ℕ) (b : Ballot) (top : Option Ballot) (old best : Option Vote) → q ≡ k → i < length log → event ≡ get_or log i event
-    → ((front more : List LogEvent) → IsUnshown (votes_in front) q b top old → IsShown (votes_in (front ++ event ∷ more)) q b (Some best)) → IsUnshown (votes_in (take i log)) k b top old → IsShown (votes_in log) k b (Some best)
-found_in log i event q k b top old best same l is found h =
+pub found_in : (log : List LogEvent) (i : ℕ) (event : LogEvent) (k : ℕ) (b : Ballot) (a : Acceptor) (best : Option Vote) → a.position ≡ k → i < length log → event ≡ get_or log i event
+    → ((front more : List LogEvent) → IsUnshown (votes_in front) b a → IsShown (votes_in (front ++ event ∷ more)) a.position b (Some best)) → IsUnshown (votes_in (take i log)) b a → IsShown (votes_in log) k b (Some best)
+found_in log i event k b a best same l is found h =
     subst (λ (p : ℕ). IsShown (votes_in log) p b (Some best)) same
-    (subst (λ (zs : List LogEvent). IsShown (votes_in zs) q b (Some best)) (split_item log i event l is)
-    (found (take i log) (drop (i + 1) log) (subst (λ (p : ℕ). IsUnshown (votes_in (take i log)) p b top old) (sym same) h)))
+    (subst (λ (zs : List LogEvent). IsShown (votes_in zs) a.position b (Some best)) (split_item log i event l is) (found (take i log) (drop (i + 1) log) h))
 
-pub passed : (log : List LogEvent) (i : ℕ) (event : LogEvent) (q k : ℕ) (b : Ballot) (top next : Option Ballot) (old best : Option Vote) → q ≡ k → i < length log → event ≡ get_or log i event
-    → ((front : List LogEvent) → IsUnshown (votes_in front) q b top old → IsUnshown (votes_in (front ++ event ∷ [])) q b next best) → IsUnshown (votes_in (take i log)) k b top old
-    → IsUnshown (votes_in (take (i + 1) log)) k b next best
-passed log i event q k b top next old best same l is goes h =
-    subst (λ (p : ℕ). IsUnshown (votes_in (take (i + 1) log)) p b next best) same
-    (subst (λ (zs : List LogEvent). IsUnshown (votes_in zs) q b next best) (sym (take_item log i event l is))
-    (goes (take i log) (subst (λ (p : ℕ). IsUnshown (votes_in (take i log)) p b top old) (sym same) h)))
+pub passed : (log : List LogEvent) (i : ℕ) (event : LogEvent) (b : Ballot) (a new : Acceptor) → i < length log → event ≡ get_or log i event
+    → ((front : List LogEvent) → IsUnshown (votes_in front) b a → IsUnshown (votes_in (front ++ event ∷ [])) b new) → IsUnshown (votes_in (take i log)) b a → IsUnshown (votes_in (take (i + 1) log)) b new
+passed log i event b a new l is goes h = subst (λ (zs : List LogEvent). IsUnshown (votes_in zs) b new) (sym (take_item log i event l is)) (goes (take i log) h)
 
 -- reading along a log
-pub read_on : (log : List LogEvent) (i : ℕ) (event : LogEvent) (q k : ℕ) (top next : Option Ballot) (votes more : List Vote) → q ≡ k → i < length log → event ≡ get_or log i event
-    → ((front : List LogEvent) → IsReadOf (votes_in front) q top votes → IsReadOf (votes_in (front ++ event ∷ [])) q next more) → IsReadOf (votes_in (take i log)) k top votes → IsReadOf (votes_in (take (i + 1) log)) k next more
-read_on log i event q k top next votes more same l is goes h =
-    subst (λ (p : ℕ). IsReadOf (votes_in (take (i + 1) log)) p next more) same
-    (subst (λ (zs : List LogEvent). IsReadOf (votes_in zs) q next more) (sym (take_item log i event l is))
-    (goes (take i log) (subst (λ (p : ℕ). IsReadOf (votes_in (take i log)) p top votes) (sym same) h)))
+pub read_on : (log : List LogEvent) (i : ℕ) (event : LogEvent) (a new : Acceptor) (votes more : List Vote) → i < length log → event ≡ get_or log i event
+    → ((front : List LogEvent) → IsReadOf (votes_in front) a votes → IsReadOf (votes_in (front ++ event ∷ [])) new more) → IsReadOf (votes_in (take i log)) a votes → IsReadOf (votes_in (take (i + 1) log)) new more
+read_on log i event a new votes more l is goes h = subst (λ (zs : List LogEvent). IsReadOf (votes_in zs) new more) (sym (take_item log i event l is)) (goes (take i log) h)

@@ -8,6 +8,7 @@ use Rattle.ms_record.specs.declared.ballot.Vote.{Vote}
 use Rattle.ms_record.specs.declared.entry.Entry.{Entry}
 use Rattle.ms_record.specs.declared.record.Record.{Record}
 use Rattle.ms_record.specs.declared.record.Record.TheVariants.{Accept}
+use Rattle.ms_record.specs.BallotOrder.{same_ballot}
 use Rattle.ms_record.specs.Ballots.{IsAtMost}
 use Rattle.ms_record.specs.Offers.{IsFirstPromised}
 use Rattle.ms_record.specs.Votes.{IsBest, IsGreatestTaken, IsTaken}
@@ -15,14 +16,11 @@ use Rattle.ms_record.specs.Votes.{IsBest, IsGreatestTaken, IsTaken}
 same_number : (a b : ℕ) → a ≤ b → b ≤ a → a ≡ b
 same_number a b p q = omega arith
 
-ballot_is : (b c : Ballot) → b.round ≡ c.round → b.client.0 ≡ c.client.0 → b ≡ c
-ballot_is b c e f = λ i. record { round = e i; client = record { 0 = f i } }
-
 -- of two ballots neither of which is greater
 one_ballot : (b c : Ballot) → IsAtMost b c → IsAtMost c b → b ≡ c
 one_ballot b c h k =
     let rounds = same_number b.round c.round h.0 k.0 in
-    ballot_is b c rounds (same_number b.client.0 c.client.0 (h.1 rounds) (k.1 (sym rounds)))
+    same_ballot b c rounds (same_number b.client.0 c.client.0 (h.1 rounds) (k.1 (sym rounds)))
 
 vote_is : (v w : Vote) → v.ballot ≡ w.ballot → v.entry ≡ w.entry → v ≡ w
 vote_is v w e f = λ i. record { ballot = e i; entry = f i }

@@ -1,37 +1,19 @@
 -- What one pass over a list of votes keeps, and what the votes of several lists come to.
-use Rattle.std.specs.Prelude.{◌≡◌, ◌≢◌, ℕ, ◌≤◌, Bool, true, List, [], Option, Some, None, length, slice_get, slice_index_or, count_by, is_some, Contains}
+use Rattle.std.specs.Prelude.{◌≡◌, ℕ, ◌≤◌, Bool, true, List, [], Option, Some, None, length, slice_get, slice_index_or, count_by, is_some, Contains}
 use Rattle.ms_world.specs.Steps.{IsShown}
+use Rattle.ms_record.specs.declared.acceptor.Acceptor.{Acceptor}
 use Rattle.ms_record.specs.declared.ballot.Ballot.{Ballot}
 use Rattle.ms_record.specs.declared.ballot.Vote.{Vote}
 use Rattle.ms_record.specs.declared.entry.Entry.{Entry}
 use Rattle.ms_record.specs.declared.record.Record.{Record}
+use Rattle.ms_record.specs.Acceptors.{IsAcceptorOf}
 use Rattle.ms_record.specs.Ballots.{IsAtMost}
-use Rattle.ms_record.specs.Votes.{position_of, ballot_of, NoneAbove, IsTaken, IsBest, IsMajority, services_below}
+use Rattle.ms_record.specs.Votes.{IsTaken, IsMajority, services_below}
 
--- a record of this position has this ballot, and none has a greater one
-pub record IsGreatestBallot (records : List Record) (position : ℕ) (ballot : Ballot) : Type 0 where
-  pub place : ℕ
-  pub message : Record
-  pub stands : slice_get records place ≡ Some message
-  pub here : position_of message ≡ position
-  pub ballot_is : ballot_of message ≡ ballot
-  pub greatest : NoneAbove records (length records) position ballot
-
--- the greatest ballot at a position; none where no record is of it
-abbrev pub IsTop : List Record → ℕ → Option Ballot → Type 0
-IsTop records position None = (i : ℕ) (r : Record) → slice_get records i ≡ Some r → position_of r ≢ position
-IsTop records position (Some ballot) = IsGreatestBallot records position ballot
-
--- behind these records one more counts: it is of the position, and no record at the position has a greater ballot
-pub record Counts (records : List Record) (position : ℕ) (message : Record) : Type 0 where
-  pub here : position_of message ≡ position
-  pub none_above : NoneAbove records (length records) position (ballot_of message)
-
--- no record is a promised Prepare of the ballot; these are their greatest ballot and their Best
-pub record IsUnshown (records : List Record) (position : ℕ) (ballot : Ballot) (top : Option Ballot) (best : Option Vote) : Type 0 where
-  pub top_is : IsTop records position top
-  pub best_is : IsBest records position (length records) best
-  pub unshown : IsShown records position ballot None
+-- the acceptor has read these records, and none of them is a promised Prepare of the ballot
+pub record IsUnshown (records : List Record) (ballot : Ballot) (acceptor : Acceptor) : Type 0 where
+  pub read : IsAcceptorOf records acceptor
+  pub unshown : IsShown records acceptor.position ballot None
 
 -- the ballots of the votes do not fall
 abbrev pub AreRising : List Vote → Type 0
@@ -43,10 +25,10 @@ pub record AreTaken (records : List Record) (position : ℕ) (votes : List Vote)
   pub kept : (place : ℕ) (b : Ballot) (e : Entry) → IsTaken records place position b e → Contains votes (record { ballot = b; entry = e })
   pub rising : AreRising votes
 
--- these are the greatest ballot of the records, and the Accepts that are taken
-pub record IsReadOf (records : List Record) (position : ℕ) (top : Option Ballot) (votes : List Vote) : Type 0 where
-  pub top_is : IsTop records position top
-  pub are_taken : AreTaken records position votes
+-- the acceptor has read these records, and the votes are the Accepts that are taken
+pub record IsReadOf (records : List Record) (acceptor : Acceptor) (votes : List Vote) : Type 0 where
+  pub read : IsAcceptorOf records acceptor
+  pub are_taken : AreTaken records acceptor.position votes
 
 -- more than half of the lists have the vote
 pub record HaveMost (lists : List (List Vote)) (vote : Vote) : Type 0 where

@@ -3,18 +3,20 @@
 ghost use Rattle.std.specs.Prelude.{◌≡◌, ◌↔◌, ◌++◌, ◌∷◌, [], ◌<◌, ◌≤◌, ℕ, All, List, Some, Contains, IsTrue, OnOk, IfOk, IfSome, IfNone, None, length, slice_get};
 ghost use Rattle.ms_world.specs.Passes.{AreRising, AreTaken, HaveMost, IsReadOf};
 ghost use Rattle.ms_world.specs.Rulings.{votes_at};
+ghost use Rattle.ms_record.specs.declared.ballot.Ballot.{Ballot};
 ghost use Rattle.ms_record.specs.declared.ballot.Vote.{Vote};
 ghost use Rattle.ms_record.specs.declared.entry.Entry.{Entry};
 ghost use Rattle.ms_record.specs.declared.log.LogEvent.{LogEvent};
 ghost use Rattle.ms_record.specs.declared.record.Record.{Record};
+ghost use Rattle.ms_record.specs.declared.record.Record.TheVariants as records;
 ghost use Rattle.ms_record.specs.Ballots.{IsAtMost, IsBelow};
 ghost use Rattle.ms_record.specs.Logs.{votes_in};
 ghost use Rattle.ms_record.specs.Votes.{ChosenBy, services_below};
 
-use crate::acceptor::{Acceptor, record_in};
 use crate::front::Front;
+use crate::service::record_in;
 use ms_base::{Items, NoMemory};
-use ms_record::{Ballot, Entry, LogEvent, Record, Vote};
+use ms_record::{Acceptor, Ballot, Entry, LogEvent, Record, Verdict, Vote};
 use std::alloc::Global;
 
 /// Puts a vote at the end.
@@ -29,6 +31,17 @@ fn push_vote(votes: &mut Items<Vote>, ballot: Ballot, entry: &Entry) -> Result<(
     })
 }
 
+/// Puts the vote of an Accept at the end.
+fn push_accept(votes: &mut Items<Vote>, message: &Record) -> Result<(), NoMemory>
+    ensures { (position : ℕ) (ballot : Ballot) (entry : Entry) → message.now ≡ records.Accept position ballot entry
+        → OnOk result (votes.new ≡ votes.old ++ record { ballot = ballot; entry = entry } ∷ []) }
+{
+    match message {
+        Record::Prepare { .. } => Ok(()),
+        Record::Accept { ballot, entry, .. } => push_vote(votes, *ballot, entry),
+    }
+}
+
 /// Goes on by one record: an Accept that is taken is put at the end.
 fn read_record(
     acceptor: &mut Acceptor,
@@ -36,15 +49,12 @@ fn read_record(
     message: &Record,
 ) -> Result<(), NoMemory>
     ensures position { acceptor.new.position ≡ acceptor.old.position }
-    ensures read { (records : List Record) → IsReadOf records acceptor.old.position acceptor.old.top votes.old
-        → OnOk result (IsReadOf (records ++ message.now ∷ []) acceptor.old.position acceptor.new.top votes.new) }
+    ensures read { (records : List Record) → IsReadOf records acceptor.old votes.old
+        → OnOk result (IsReadOf (records ++ message.now ∷ []) acceptor.new votes.new) }
 {
-    if !acceptor.counts(message) {
-        return Ok(());
-    }
-    match message {
-        Record::Prepare { .. } => Ok(()),
-        Record::Accept { ballot, entry, .. } => push_vote(votes, *ballot, entry),
+    match acceptor.feed(message) {
+        Verdict::Taken => push_accept(votes, message),
+        _ => Ok(()),
     }
 }
 
@@ -55,8 +65,8 @@ fn read_event(
     event: &LogEvent,
 ) -> Result<(), NoMemory>
     ensures position { acceptor.new.position ≡ acceptor.old.position }
-    ensures read { (log : List LogEvent) → IsReadOf (votes_in log) acceptor.old.position acceptor.old.top votes.old
-        → OnOk result (IsReadOf (votes_in (log ++ event.now ∷ [])) acceptor.old.position acceptor.new.top votes.new) }
+    ensures read { (log : List LogEvent) → IsReadOf (votes_in log) acceptor.old votes.old
+        → OnOk result (IsReadOf (votes_in (log ++ event.now ∷ [])) acceptor.new votes.new) }
 {
     match record_in(event) {
         Some(message) => read_record(acceptor, votes, &message),

@@ -1,7 +1,6 @@
 //! The protocol as a pure machine: a world of services and clients, its events, and what holds in every run.
 #![tactic(auto)]
 
-mod acceptor;
 mod behind;
 mod bids;
 mod chain;

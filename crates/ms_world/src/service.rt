@@ -1,12 +1,13 @@
 //! What happened to a service.
 
-ghost use Rattle.std.specs.Prelude.{◌≡◌, ◌++◌, ◌∷◌, [], List, length, take, OnOk, OnErr};
+ghost use Rattle.std.specs.Prelude.{◌≡◌, ◌++◌, ◌∷◌, [], List, length, option_to_list, take, OnOk, OnErr};
 ghost use Rattle.ms_core.specs.Floors.{IsFloor};
 ghost use Rattle.ms_record.specs.declared.log.LogEvent.{LogEvent};
+ghost use Rattle.ms_record.specs.Logs.{votes_in};
 
 use crate::front::Front;
 use ms_base::NoMemory;
-use ms_record::LogEvent;
+use ms_record::{LogEvent, Record, parse_record};
 use std::alloc::Global;
 use std::marker::Model;
 
@@ -91,5 +92,22 @@ fn floor_behind(floor: u32, event: &LogEvent) -> u32
         LogEvent::Drop { floor: below } => { if *below > floor { *below } else { floor } }
         LogEvent::Rec { .. } => floor,
         LogEvent::Put { .. } => floor,
+    }
+}
+
+/// The record that the event adds to the votes; a text that is none adds nothing.
+pub(crate) fn record_in(event: &LogEvent) -> Option<Record>
+    ensures { votes_in (event.now ∷ []) ≡ option_to_list result }
+{
+    match event {
+        LogEvent::Rec { list, text } => {
+            if list.0 == 0 {
+                parse_record(text.as_slice())
+            } else {
+                None
+            }
+        }
+        LogEvent::Put { .. } => None,
+        LogEvent::Drop { .. } => None,
     }
 }

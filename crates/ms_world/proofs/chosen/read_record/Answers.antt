@@ -1,16 +1,20 @@
-use Rattle.ms_world.proofs.Counting.{on_ok, reads_uncounted, reads_prepare, reads_accept_as}
+use Rattle.std.proofs.Common.{subst}
+use Rattle.ms_world.proofs.Counting.{not_taken, on_ok, reads_accept, reads_nothing, takes_accept}
+use Rattle.ms_record.specs.declared.acceptor.Verdict.{Verdict}
+use Rattle.ms_record.specs.Acceptors.{IsVerdict}
 use Rattle.ms_world.proofs.chosen.read_record.Goals as goal
 
-pub returns-then-not-counts-clause-read : goal.returns-then-not-counts-clause-read
-returns-then-not-counts-clause-read c = λ xs h.
-    reads_uncounted xs c.args.message.now c.args.acceptor.now.position _ _ _ (c.counts.ensures.no c.if-not-counts.true xs h.top_is) (c.counts.ensures.goes_on xs h.top_is) h
+pub returns-in-Taken-clause-read : goal.returns-in-Taken-clause-read
+returns-in-Taken-clause-read c = λ xs h.
+    let a = c.args.acceptor.now in
+    let r = c.args.message.now in
+    let t = subst (λ (v : Verdict). IsVerdict xs r a.position v) c.in-Taken.is (c.feed.ensures.verdict xs h.read) in
+    on_ok c.push_accept.result (c.push_accept.ensures a.position t.ballot t.entry (takes_accept xs r a.position t)) (λ is.
+    reads_accept xs r a c.feed.new.self c.args.votes.now c.push_accept.new.votes c.feed.ensures.position (c.feed.ensures.goes_on xs h.read) t is h)
 
-pub returns-in-Prepare-clause-read : goal.returns-in-Prepare-clause-read
-returns-in-Prepare-clause-read c = λ xs h.
-    reads_prepare xs c.args.message.now c.args.acceptor.now.position c.in-Prepare.position c.in-Prepare.ballot _ _ _ c.in-Prepare.is (c.counts.ensures.goes_on xs h.top_is) h
-
-pub returns-in-Accept-clause-read : goal.returns-in-Accept-clause-read
-returns-in-Accept-clause-read c = λ xs h.
-    on_ok c.push_vote.result c.push_vote.ensures (λ is.
-    reads_accept_as xs c.args.message.now c.args.acceptor.now.position c.in-Accept.position c.in-Accept.ballot c.in-Accept.entry _ _ _ _ c.in-Accept.is
-    (c.counts.ensures.yes c.if-not-counts.false xs h.top_is) (c.counts.ensures.goes_on xs h.top_is) is h)
+pub returns-in_default-clause-read : goal.returns-in_default-clause-read
+returns-in_default-clause-read c = λ xs h.
+    let a = c.args.acceptor.now in
+    let r = c.args.message.now in
+    reads_nothing xs r a c.feed.new.self c.args.votes.now c.feed.ensures.position (c.feed.ensures.goes_on xs h.read)
+    (not_taken xs r a.position c.feed.result (c.feed.ensures.verdict xs h.read) c.in_default.not-Taken) h

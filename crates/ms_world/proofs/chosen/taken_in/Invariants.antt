@@ -6,5 +6,5 @@ use Rattle.ms_world.proofs.chosen.taken_in.Given as goal
 abbrev pub invariant-loop-event : goal.invariant-loop-event
 invariant-loop-event l = record {
   position : l.acceptor.position ≡ l.fn.position;
-  read : IsReadOf (votes_in (take l.event-index l.log)) l.fn.position l.acceptor.top l.votes;
+  read : IsReadOf (votes_in (take l.event-index l.log)) l.acceptor l.votes;
 }

@@ -5,6 +5,6 @@ use Rattle.ms_world.proofs.shown.shown.Given as goal
 
 abbrev pub invariant-loop-event : goal.invariant-loop-event
 invariant-loop-event l = record {
-  position : l.search.acceptor.position ≡ l.fn.position;
-  unshown : IsUnshown (votes_in (take l.event-index l.log)) l.fn.position l.fn.ballot l.search.acceptor.top l.search.best;
+  position : l.acceptor.position ≡ l.fn.position;
+  unshown : IsUnshown (votes_in (take l.event-index l.log)) l.fn.ballot l.acceptor;
 }
