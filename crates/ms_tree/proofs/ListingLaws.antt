@@ -1,10 +1,9 @@
 -- Lines of a listing: a path that is no text, and the first fault.
-use Rattle.std.proofs.Common.{◌≡◌, ℕ, ◌+◌, Bool, true, false, List, [], ◌∷◌, ◌++◌, length, length-append, append_assoc, Option, Some, None, IsSome, is_some, Bor, Result, Ok, Err, if◌then◌else◌, refl, sym, ◌∙◌, ap, arith}
+use Rattle.std.proofs.Common.{◌≡◌, ℕ, ◌+◌, Bool, true, false, List, [], ◌∷◌, ◌++◌, length, length-append, append_assoc, Option, Some, None, is_some, Bor, Result, Ok, Err, if◌then◌else◌, refl, sym, ◌∙◌, ap, arith}
 use Rattle.std.specs.Str.{is_utf8, IsUtf8}
 use Rattle.std.specs.Option.{option_copied}
 use Rattle.std.proofs.lemmas.Bool.{false≢true}
 use Rattle.std.proofs.lemmas.Str.{IsUtf8-from_is_utf8}
-use Rattle.ms_text.specs.Words.{two_words}
 use Rattle.ms_record.specs.declared.refusal.Refusal.{Refusal}
 use Rattle.ms_record.specs.declared.refusal.Refusal.TheVariants as refusals
 use Rattle.ms_record.specs.declared.refusal.Place.TheVariants as places
@@ -12,7 +11,7 @@ use Rattle.ms_tree.specs.Limits.{on_ok}
 use Rattle.ms_tree.specs.Files.{FileList, text_at, added, IsFiles}
 use Rattle.ms_tree.proofs.FileLaws.{length-with_file}
 use Rattle.ms_tree.proofs.AddedLaws.{added_files}
-use Rattle.ms_tree.specs.Listings.{row_at, with_row, with_line, with_lines, or_wrong, IsFirstFault, RanOut}
+use Rattle.ms_tree.specs.Listings.{row_at, with_row, with_line, with_lines, or_wrong, IsFirstFault}
 
 -- a path that is no text makes the line a wrong one
 pub no_text : (line : ℕ) (files : FileList) (text : List ℕ) (o : Option (List ℕ × List ℕ)) (path content : List ℕ) → o ≡ row_at text → o ≡ Some (path, content) → ¬ IsUtf8 path
@@ -104,9 +103,6 @@ has_read_more files new line text all texts rest split place gives more read =
       goes_on = with_lines-append 1 [] files read.front (text ∷ []) read.goes_on ∙ ap (λ (n : ℕ). with_lines n files (text ∷ [])) same ∙ rw gives refl;
       count = omega (arith, more, read.count, length-append read.front (text ∷ []));
     }
-
-pub ran_out : (texts rest : List (List ℕ)) (text : List ℕ) (files : FileList) → HasRead texts (text ∷ rest) files → IsSome (two_words text) → RanOut texts
-ran_out texts rest text files read words = record { front = read.front; text = text; rest = rest; all = read.all; so_far = files; goes_on = read.goes_on; words = words }
 
 -- what is left of the text, behind a line that is right
 pub lines_go_on : (files new : FileList) (line : ℕ) (text : List ℕ) (texts rest : List (List ℕ)) (whole : Result FileList Refusal) → texts ≡ text ∷ rest → line ≡ length files + 1 → with_line line files text ≡ Ok new

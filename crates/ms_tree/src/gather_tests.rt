@@ -1,8 +1,9 @@
 //! Trees of objects made by hand, and the first fault of the walks that meet one.
 
-use crate::gather;
+use crate::tests::empty_files;
+use crate::{gather, plant};
 use ms_base::{Bytes, Name, Quantity};
-use ms_object::{GatherError, Store};
+use ms_object::{Format, GatherError, Store};
 use std::alloc::Global;
 use std::test::*;
 
@@ -273,4 +274,38 @@ fn paths_are_judged_before_their_objects(rt: HostRuntime) {
             "{levels} {wanted}"
         );
     }
+}
+
+/// Whether the walk through a directory of 100,000 files and one more file passes the limit at the last.
+fn is_one_too_many(alloc: Global) -> Option<bool> {
+    let planted = plant(alloc, &empty_files(alloc, 100_000)?, Format::One).ok()?;
+    let mut store = planted.objects;
+    let empty = put(alloc, &mut store, b"F\0\0\0\0\0\0\0\0\0\0\0\0")?;
+    let mut text = Vec::new(alloc);
+    text.extend_from_slice(b"D\0\0\0\x02d\x01a").ok()?;
+    text.extend_from_slice(&planted.root.0).ok()?;
+    text.extend_from_slice(b"f\x01b").ok()?;
+    text.extend_from_slice(&empty.0).ok()?;
+    let root = put(alloc, &mut store, &text)?;
+    Some(told(alloc, &store, &root)?.as_str() == "files 100001")
+}
+
+#[test]
+fn a_walk_above_the_limit_of_files(rt: HostRuntime) {
+    assert!(rt; is_one_too_many(rt.alloc()) == Some(true));
+}
+
+/// Whether a text of more bytes than an object may have is met as no tree.
+fn is_too_large(alloc: Global) -> Option<bool> {
+    let mut store = Store::new(alloc);
+    let mut text = Vec::new(alloc);
+    text.resize(33_554_433, b'D').ok()?;
+    let root = store.add(Bytes::from_vec(text)).ok()?;
+    let wanted = named(alloc, "wrong", &root)?;
+    Some(told(alloc, &store, &root)? == wanted)
+}
+
+#[test]
+fn a_text_above_the_limit(rt: HostRuntime) {
+    assert!(rt; is_too_large(rt.alloc()) == Some(true));
 }

@@ -122,9 +122,6 @@ fn paths_above_their_limits(rt: HostRuntime) {
 
 /// The first wrong line of a listing, or 0.
 fn wrong_line(alloc: Global, text: &str) -> Option<u32> {
-    if text.len() > 1_000 {
-        return None;
-    }
     match read_listing(alloc, text.as_bytes()) {
         Ok(_) => Some(0),
         Err(
@@ -158,4 +155,14 @@ fn are_kept(alloc: Global) -> Option<bool> {
 #[test]
 fn files_are_kept_by_their_paths(rt: HostRuntime) {
     assert!(rt; are_kept(rt.alloc()) == Some(true));
+}
+
+/// So many files without bytes, at the paths `0`, `1` and so on.
+pub(crate) fn empty_files(alloc: Global, count: u32) -> Option<Files> {
+    let mut files = Files::new(alloc);
+    for number in 0..count {
+        let path = number.to_string(alloc).ok()?;
+        files.add(path.as_str(), Bytes::of(alloc, b"").ok()?).ok()?;
+    }
+    Some(files)
 }
