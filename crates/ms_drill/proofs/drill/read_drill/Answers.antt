@@ -23,7 +23,7 @@ returns-in_err-events-clause-exact c =
     let refusal = c.in_err-events.field-0.0 in
     let first = c.next_line.result.0.now in
     let lines = lines_of c.next_line.result.1.now in
-    let few : length lines ≤ most_events = omega (arith, c.count_lines-count.ensures, c.if-count-gt-EVENTS.false) in
+    let few : length lines ≤ most_events = omega (arith, c.count_lines-count.ensures) in
     let behind = behind_head first lines c.in-Some.head refusal (sym c.in-Some.is ∙ c.read_head.ensures.is) few c.in_err-events.ensures.read in
     subst (λ (r : Result Drill Refusal). ReadsDrill (drill_at c.args.text.now) r) (sym (err_is given refusal c.from_residual.ensures.1))
     (subst (λ (ls : List (List ℕ)). ReadsDrill (drill_of ls) (Err refusal)) (sym c.next_line.ensures.lines) behind)
