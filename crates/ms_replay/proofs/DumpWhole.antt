@@ -1,5 +1,5 @@
 -- A dump is read exactly where it is spelled so.
-use Rattle.std.proofs.Common.{◌≡◌, ℕ, ◌+◌, ◌<◌, ◌≤◌, Bool, true, false, cond, List, [], ◌∷◌, ◌++◌, Option, Some, None, inl, inr, Result, Ok, Err, refl, sym, ap, ◌∙◌, subst, length, get_or, set, replicate, get_or-set_same, get_or-set_other, append_assoc, append-nil, arith}
+use Rattle.std.proofs.Common.{◌≡◌, ℕ, ◌+◌, ◌<◌, ◌≤◌, Bool, true, false, cond, List, [], ◌∷◌, ◌++◌, Option, Some, None, inl, inr, Ok, refl, sym, ap, ◌∙◌, subst, length, get_or, get_or-set_same, get_or-set_other, append_assoc, append-nil, arith}
 use Rattle.std.specs.Prelude.{◌==◌}
 use Rattle.std.specs.Option.{option_map}
 use Rattle.std.proofs.lemmas.Bool.{cases_eq}
@@ -8,8 +8,8 @@ use Rattle.std.proofs.lemmas.List.{get_or-replicate, get_or_default, length-repl
 use Rattle.ms_base.specs.declared.names.Name.{Name}
 use Rattle.ms_text.specs.Lines.{lines_of, or_wrong, on_or_wrong, read_lines}
 use Rattle.ms_replay.specs.declared.dump.Dump.{Dump}
-use Rattle.ms_replay.specs.DumpLines.{SpellsHead, SpellsRow, SpellRows, SpellsDump, texts_of}
-use Rattle.ms_replay.specs.Dumps.{head_at, row_at, push_at, dump_of, with_head, with_row, dump_line, whole, dump_at}
+use Rattle.ms_replay.specs.DumpLines.{SpellsHead, SpellRows, SpellsDump, texts_of}
+use Rattle.ms_replay.specs.Dumps.{head_at, row_at, push_at, with_head, with_row, dump_line, whole, dump_at}
 use Rattle.ms_replay.proofs.DumpSpelling.{WordLaws, head_spelled, head_read, row_spelled, row_read}
 
 -- what stands after these rows

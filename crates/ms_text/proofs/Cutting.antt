@@ -1,7 +1,7 @@
 -- The first line of a text.
-use Rattle.std.proofs.Common.{◌≡◌, ℕ, zero, suc, ◌+◌, ◌-◌, ◌<◌, ◌≤◌, Bool, true, false, List, [], ◌∷◌, ◌++◌, Option, Some, None, ◌⊎◌, inl, inr, refl, sym, ap, ◌∙◌, cond, length, take, drop, get_or, arith, add-one, lt-ltb}
+use Rattle.std.proofs.Common.{◌≡◌, ℕ, zero, suc, ◌+◌, ◌<◌, Bool, true, false, List, [], ◌∷◌, Some, None, inl, inr, refl, cond, length, take, drop, get_or, arith, add-one, lt-ltb}
 use Rattle.std.specs.Prelude.{◌==◌, position, nat_lt}
-use Rattle.std.specs.List.{position_or_len, onto_first}
+use Rattle.std.specs.List.{position_or_len}
 use Rattle.std.proofs.lemmas.List.Quantifiers.{position-Some}
 use Rattle.std.proofs.lemmas.List.Sums.{fails_before_first}
 use Rattle.std.proofs.lemmas.Bool.{cases_lt}

@@ -1,6 +1,5 @@
-use Rattle.std.proofs.Common.{◌≡◌, sym, ap, ◌∙◌, List, ℕ, ◌∷◌, ◌-◌, arith, length, take, drop}
+use Rattle.std.proofs.Common.{sym, arith, length}
 use Rattle.std.proofs.lemmas.List.{take_rest, drop_all}
-use Rattle.ms_text.specs.Lines.{lines_of}
 use Rattle.ms_text.proofs.Cutting.{cut_some, cut_none}
 use Rattle.ms_text.proofs.lines.next_line.Goals as goal
 
