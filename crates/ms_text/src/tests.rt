@@ -1,8 +1,8 @@
 //! Lines, words and numbers whose values were known before.
 
 use crate::{
-    Label, bytes, first_wrong_lines, hex_bytes, is_client_label, name, next_line, number, push_name,
-    push_number, push_text, split_at_space, words_are_joined,
+    Label, bytes, first_wrong_lines, hex_bytes, is_client_label, name, next_line, number,
+    push_name, push_number, push_text, split_at_space, words_are_joined,
 };
 use std::alloc::Global;
 use std::test::*;
