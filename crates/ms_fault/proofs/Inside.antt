@@ -1,7 +1,6 @@
 -- The link inside, as the link with faults.
 use Rattle.std.proofs.Common.{◌≡◌, ℕ, ◌&&◌, Bool, true, false, Result, Ok, Err, refl, ap, ◌∙◌, arith}
-use Rattle.ms_base.specs.Counts.{Rose}
-use Rattle.ms_base.specs.Memory.{one_more}
+use Rattle.ms_base.specs.Counts.{Rose, one_more}
 use Rattle.ms_fault.specs.Faults.{FaultView, link_of, faults_after}
 use Rattle.ms_link.specs.Links.{PassesOut, CountsFailed}
 use Rattle.ms_link.specs.declared.fault.LinkError.{LinkError}

@@ -5,7 +5,7 @@ use Rattle.ms_base.specs.declared.names.Name.{Name}
 use Rattle.ms_fault.specs.Changes.{Changes}
 use Rattle.ms_fault.specs.declared.fault.Fault.{Fault}
 use Rattle.ms_fault.specs.declared.fault.Fault.TheVariants as faults
-use Rattle.ms_base.specs.Memory.{one_more}
+use Rattle.ms_base.specs.Counts.{one_more}
 use Rattle.ms_fault.specs.declared.late.LateChange.{LateChange}
 use Rattle.ms_fault.specs.Late.{waiting, sent_late}
 use Rattle.ms_ken.specs.Known.{Known}

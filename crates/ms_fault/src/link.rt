@@ -1,7 +1,7 @@
 //! A link whose calls meet the faults of a script.
 
 ghost use Rattle.std.specs.Prelude.{◌≡◌, ◌≤◌, ◌⊎◌, ◌++◌, ◌∷◌, [], OnOk, OnErr, length};
-ghost use Rattle.ms_base.specs.Memory.{one_more};
+ghost use Rattle.ms_base.specs.Counts.{one_more};
 ghost use Rattle.ms_core.specs.Views.{IsClosed};
 ghost use Rattle.ms_fault.specs.Changes.{event_of, size_of, Changes};
 ghost use Rattle.ms_fault.specs.Faults.{due, link_of, still_late, faults_after, IsActed, IsCalled, IsIdle, IsNext, ChangesBy, LateBy};
