@@ -34,6 +34,13 @@ ReadsKept old new (Err (kept_errors.Damaged key)) = (key ≡ State) × WhereTold
 ReadsKept old new (Err kept_errors.Failed) = Rose old.faults new.faults
 ReadsKept old new (Err kept_errors.NoMemory) = Unit {0}
 
+-- the count of faults is as before after each answer but a failure
+abbrev pub IsKeptSteady : ℕ → ℕ → Result Kept KeptError → Type 0
+IsKeptSteady before now (Err kept_errors.Failed) = Unit {0}
+IsKeptSteady before now (Err kept_errors.NoMemory) = now ≡ before
+IsKeptSteady before now (Err (kept_errors.Damaged key)) = now ≡ before
+IsKeptSteady before now (Ok kept) = now ≡ before
+
 -- the state is this one, and the objects are as before
 pub record HasState (kept : Kept) (old new : KeptTexts) : Type 0 where
   pub state : state_in new ≡ Some kept

@@ -28,6 +28,19 @@ pub record WorkView : Type 0 where
 abbrev pub WhereTold : Bool → Type 0 → Type 0
 WhereTold told P = told ≡ true → P
 
+-- the count of faults is as before after each answer but a failure
+abbrev pub IsSteady : {X : Type 0} → ℕ → ℕ → Result X OutsideError → Type 0
+IsSteady before now (Err errors.Failed) = Unit {0}
+IsSteady before now (Err errors.NoMemory) = now ≡ before
+IsSteady before now (Ok x) = now ≡ before
+
+-- the same of a scan
+abbrev pub IsScanSteady : ℕ → ℕ → Result FileList WorkError → Type 0
+IsScanSteady before now (Err work_errors.Failed) = Unit {0}
+IsScanSteady before now (Err work_errors.NoMemory) = now ≡ before
+IsScanSteady before now (Err (work_errors.Limit what value)) = now ≡ before
+IsScanSteady before now (Ok files) = now ≡ before
+
 -- ---- keepers
 
 abbrev pub Reads : Key → KeeperView → KeeperView → Result (Option (List ℕ)) OutsideError → Type 0

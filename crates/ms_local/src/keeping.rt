@@ -1,7 +1,8 @@
 //! Reading and keeping the state.
 
 ghost use Rattle.std.specs.Prelude.{◌≡◌, ◌≤◌, IfOk, IfSome, length};
-ghost use Rattle.ms_local.specs.Keeping.{HasRanges, ReadsKept, WritesKept};
+ghost use Rattle.ms_local.specs.Keeping.{HasRanges, IsKeptSteady, ReadsKept, WritesKept};
+ghost use Rattle.ms_local.specs.Outside.{IsSteady};
 ghost use Rattle.ms_local.specs.States.{IsBase, IsState, IsTodo};
 
 use crate::kept::{Base, Kept, Key};
@@ -26,6 +27,7 @@ pub fn read_kept<K: Keeper>(alloc: Global, keep: &mut K) -> Result<Kept, KeptErr
     ensures ranges { IfOk result IsState }
     ensures same { K.sees keep.new ≡ record (K.sees keep.old) { faults = (K.sees keep.new).faults } }
     ensures later { (K.sees keep.old).faults ≤ (K.sees keep.new).faults }
+    ensures steady { IsKeptSteady (K.sees keep.old).faults (K.sees keep.new).faults result }
 {
     match keep.read(alloc, &Key::State) {
         Ok(Some(text)) => match parse_kept(text.as_slice()) {
@@ -80,6 +82,7 @@ pub fn write_kept<K: Keeper>(alloc: Global, keep: &mut K, kept: &Kept) -> Result
     ensures writes { WritesKept kept.now (K.sees keep.old) (K.sees keep.new) result }
     ensures told { (K.sees keep.new).told ≡ (K.sees keep.old).told }
     ensures later { (K.sees keep.old).faults ≤ (K.sees keep.new).faults }
+    ensures steady { IsSteady (K.sees keep.old).faults (K.sees keep.new).faults result }
 {
     kept_laws();
     shows_state(kept);

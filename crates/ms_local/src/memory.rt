@@ -1,8 +1,12 @@
 //! A keeper and a work folder in memory, which fail at the calls that they are told.
 
-ghost use Rattle.std.specs.Prelude.{◌≡◌, [], None, IfOk, option_map};
-ghost use Rattle.ms_base.specs.Memory.{first_calls};
+ghost use Rattle.std.specs.Prelude.{◌≡◌, ◌≤◌, ◌↔◌, ℕ, [], None, Err, IfOk, IsTrue, OnErr, option_map};
+ghost use Rattle.ms_base.specs.Memory.{after_call, first_calls, is_due};
+ghost use Rattle.ms_base.specs.declared.names.Quantity.{Quantity};
+ghost use Rattle.ms_base.specs.declared.outside.OutsideError.TheVariants as errors;
 ghost use Rattle.ms_local.specs.Memory.{keeper_of, texts_by, work_of};
+ghost use Rattle.ms_local.specs.Outside.{IsScanSteady, IsSteady, MayPlace, Places, Reads, Removes, Scans, Writes};
+ghost use Rattle.ms_local.specs.declared.outside.WorkError.TheVariants as work_errors;
 
 use crate::kept::Key;
 use crate::outside::{Keeper, Work, WorkError};
@@ -64,14 +68,30 @@ fn copy_text(alloc: Global, text: Option<&Bytes>) -> Result<Option<Bytes>, NoMem
 impl Keeper for MemoryKeeper {
     ghost sees = { keeper_of };
 
-    fn read(&mut self, alloc: Global, key: &Key) -> Result<Option<Bytes>, OutsideError> {
+    fn read(&mut self, alloc: Global, key: &Key) -> Result<Option<Bytes>, OutsideError>
+        ensures reads { Reads key.now (keeper_of self.old) (keeper_of self.new) result }
+        ensures same { self.new ≡ record self.old { calls = self.new.calls } }
+        ensures later { self.old.calls.faults ≤ self.new.calls.faults }
+        ensures steady { IsSteady self.old.calls.faults self.new.calls.faults result }
+        // The calls that fail are those of the script.
+        ensures fails { (result ≡ Err errors.Failed) ↔ IsTrue (is_due self.old.calls) }
+        ensures calls { self.new.calls ≡ after_call (is_due self.old.calls) self.old.calls }
+    {
         if self.script.call() {
             return Err(OutsideError::Failed);
         }
         Ok(copy_text(alloc, self.held(key))?)
     }
 
-    fn write(&mut self, alloc: Global, key: &Key, text: &[u8]) -> Result<(), OutsideError> {
+    fn write(&mut self, alloc: Global, key: &Key, text: &[u8]) -> Result<(), OutsideError>
+        ensures writes { Writes key.now text.now (keeper_of self.old) (keeper_of self.new) result }
+        ensures later { self.old.calls.faults ≤ self.new.calls.faults }
+        ensures steady { IsSteady self.old.calls.faults self.new.calls.faults result }
+        // The calls that fail are those of the script, and a call that is not answered Ok keeps nothing.
+        ensures fails { (result ≡ Err errors.Failed) ↔ IsTrue (is_due self.old.calls) }
+        ensures calls { self.new.calls ≡ after_call (is_due self.old.calls) self.old.calls }
+        ensures err { OnErr result (self.new ≡ record self.old { calls = self.new.calls }) }
+    {
         if self.script.call() {
             return Err(OutsideError::Failed);
         }
@@ -131,7 +151,16 @@ fn copy_files(alloc: Global, files: &Files) -> Result<Files, NoMemory>
 impl Work for MemoryWork {
     ghost sees = { work_of };
 
-    fn scan(&mut self, alloc: Global) -> Result<Files, WorkError> {
+    fn scan(&mut self, alloc: Global) -> Result<Files, WorkError>
+        ensures scans { Scans (work_of self.old) (work_of self.new) result }
+        ensures same { self.new ≡ record self.old { calls = self.new.calls } }
+        ensures later { self.old.calls.faults ≤ self.new.calls.faults }
+        ensures steady { IsScanSteady self.old.calls.faults self.new.calls.faults result }
+        // The calls that fail are those of the script, and no limit is passed.
+        ensures fails { (result ≡ Err work_errors.Failed) ↔ IsTrue (is_due self.old.calls) }
+        ensures calls { self.new.calls ≡ after_call (is_due self.old.calls) self.old.calls }
+        ensures no_limit { (what : Quantity) (value : ℕ) → result ≡ Err (work_errors.Limit what value) → ⊥ }
+    {
         if self.script.call() {
             return Err(WorkError::Failed);
         }
@@ -141,7 +170,16 @@ impl Work for MemoryWork {
         }
     }
 
-    fn write(&mut self, alloc: Global, path: &str, text: &[u8]) -> Result<(), OutsideError> {
+    fn write(&mut self, alloc: Global, path: &str, text: &[u8]) -> Result<(), OutsideError>
+        requires may { MayPlace path.now text.now (work_of self.old) }
+        ensures places { Places path.now text.now (work_of self.old) (work_of self.new) result }
+        ensures later { self.old.calls.faults ≤ self.new.calls.faults }
+        ensures steady { IsSteady self.old.calls.faults self.new.calls.faults result }
+        // The calls that fail are those of the script, and a call that is not answered Ok changes nothing.
+        ensures fails { (result ≡ Err errors.Failed) ↔ IsTrue (is_due self.old.calls) }
+        ensures calls { self.new.calls ≡ after_call (is_due self.old.calls) self.old.calls }
+        ensures err { OnErr result (self.new ≡ record self.old { calls = self.new.calls }) }
+    {
         if self.script.call() {
             return Err(OutsideError::Failed);
         }
@@ -152,7 +190,15 @@ impl Work for MemoryWork {
         }
     }
 
-    fn remove(&mut self, _alloc: Global, path: &str) -> Result<(), OutsideError> {
+    fn remove(&mut self, _alloc: Global, path: &str) -> Result<(), OutsideError>
+        ensures removes { Removes path.now (work_of self.old) (work_of self.new) result }
+        ensures later { self.old.calls.faults ≤ self.new.calls.faults }
+        ensures steady { IsSteady self.old.calls.faults self.new.calls.faults result }
+        // The calls that fail are those of the script, and a call that is not answered Ok changes nothing.
+        ensures fails { (result ≡ Err errors.Failed) ↔ IsTrue (is_due self.old.calls) }
+        ensures calls { self.new.calls ≡ after_call (is_due self.old.calls) self.old.calls }
+        ensures err { OnErr result (self.new ≡ record self.old { calls = self.new.calls }) }
+    {
         if self.script.call() {
             return Err(OutsideError::Failed);
         }

@@ -1,6 +1,6 @@
 //! Reading and writing the kept state: `docs/FORMATS.md`, the kept state.
 
-ghost use Rattle.std.specs.Prelude.{◌≡◌, ◌∷◌, [], ◌++◌, ℕ, List, Some, length, OnOk, IfSome};
+ghost use Rattle.std.specs.Prelude.{◌≡◌, ◌∷◌, [], ◌++◌, ℕ, List, Some, length, OnErr, OnOk, IfSome};
 ghost use Rattle.std.specs.Option.{option_map};
 ghost use Rattle.ms_base.specs.Fields.{IsBytes};
 ghost use Rattle.ms_local.specs.declared.kept.Kept.{Kept};
@@ -141,14 +141,25 @@ fn push_numbers(out: &mut Vec<u8>, kept: &Kept) -> Result<(), NoMemory>
     push_u32(out, kept.number)
 }
 
-/// Puts the bytes of a state at the end of `out`.
-pub fn push_kept(out: &mut Vec<u8>, kept: &Kept) -> Result<(), NoMemory>
+/// The bytes of a state, put at the end of `out`.
+fn push_state(out: &mut Vec<u8>, kept: &Kept) -> Result<(), NoMemory>
     ensures { OnOk result (out.new.items ≡ out.old.items ++ kept_text kept.now) }
 {
     push_numbers(out, kept)?;
     push_base(out, &kept.base)?;
     push_name(out, &kept.head)?;
     push_flagged(out, kept)
+}
+
+/// Puts the bytes of a state at the end of `out`, or leaves what was there.
+pub fn push_kept(out: &mut Vec<u8>, kept: &Kept) -> Result<(), NoMemory>
+    ensures ok { OnOk result (out.new.items ≡ out.old.items ++ kept_text kept.now) }
+    ensures err { OnErr result (out.new.items ≡ out.old.items) }
+{
+    let mut text = Vec::new(*out.allocator());
+    push_state(&mut text, kept)?;
+    out.extend_from_slice(&text)?;
+    Ok(())
 }
 
 /// A state has one spelling, and that is read.

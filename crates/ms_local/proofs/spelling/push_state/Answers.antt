@@ -1,6 +1,6 @@
 use Rattle.ms_local.specs.States.{numbers_text, base_text, todo_part}
 use Rattle.ms_local.proofs.Appending.{on_ok, four_appended}
-use Rattle.ms_local.proofs.spelling.push_kept.Goals as goal
+use Rattle.ms_local.proofs.spelling.push_state.Goals as goal
 
 pub returns : goal.returns
 returns c =
