@@ -1,9 +1,12 @@
 -- What contracts see of a keeper and of a work folder, and what each call leaves, by its answer.
-use Rattle.std.specs.Prelude.{◌≡◌, ◌≢◌, ◌⊎◌, ℕ, Bool, true, List, Option, Some, Result, Ok, Err}
+use Rattle.std.specs.Prelude.{◌≡◌, ◌≢◌, ◌⊎◌, ℕ, Bool, true, List, [], ◌∷◌, Option, Some, Result, Ok, Err}
 use Rattle.ms_base.specs.Counts.{Rose}
 use Rattle.ms_base.specs.declared.outside.OutsideError.{OutsideError}
 use Rattle.ms_base.specs.declared.outside.OutsideError.TheVariants as errors
+use Rattle.ms_tree.specs.declared.limits.FilesError.{FilesError}
+use Rattle.ms_tree.specs.declared.limits.FilesError.TheVariants as file_errors
 use Rattle.ms_tree.specs.Files.{FileList, IsFiles, added, with_file, without}
+use Rattle.ms_tree.specs.Limits.{on_ok}
 use Rattle.ms_local.specs.declared.kept.Key.{Key}
 use Rattle.ms_local.specs.declared.outside.WorkError.{WorkError}
 use Rattle.ms_local.specs.declared.outside.WorkError.TheVariants as work_errors
@@ -64,10 +67,20 @@ Writes key text old new (Err errors.NoMemory) = WhereTold old.told (MayBeKept ke
 
 -- ---- work folders
 
+-- the files one by one behind these, or the first rule that one of them breaks beside those before it
+abbrev pub all_added : FileList → FileList → Result FileList FilesError
+all_added files [] = Ok files
+all_added files (next ∷ rest) = on_ok (added files next.0 next.1) (λ more. all_added more rest)
+
+-- this is the first limit that the files pass, in the order of their paths
+pub record PassesFirst (files : FileList) (error : FilesError) : Type 0 where
+  pub passes : IsFiles files → ⊥
+  pub first : all_added [] files ≡ Err error
+
 -- told files keep all rules exactly where no limit is passed
 abbrev pub Scans : WorkView → WorkView → Result FileList WorkError → Type 0
 Scans old new (Ok files) = WhereTold old.told (files ≡ old.files)
-Scans old new (Err (work_errors.Limit what value)) = WhereTold old.told (IsFiles old.files → ⊥)
+Scans old new (Err (work_errors.Limit what value)) = WhereTold old.told (PassesFirst old.files (file_errors.Limit what value))
 Scans old new (Err work_errors.Failed) = Rose old.faults new.faults
 Scans old new (Err work_errors.NoMemory) = Unit {0}
 
