@@ -1,10 +1,12 @@
 -- Chains that are learnt at a desk.
-use Rattle.std.specs.Prelude.{◌≡◌, ◌⊎◌, ℕ, ◌+◌, ◌*◌, ◌<◌, ◌≤◌, ◌==◌, Bool, true, false, List, [], ◌∷◌, ◌++◌, Some, Result, Ok, Err, Contains, count_by, length, slice_get, slice_index_or, take}
+use Rattle.std.specs.Prelude.{◌≡◌, ◌⊎◌, ◌↔◌, ℕ, ◌+◌, ◌*◌, ◌<◌, ◌≤◌, ◌==◌, Bool, true, false, List, [], ◌∷◌, ◌++◌, Option, Some, Result, Ok, Err, Contains, count_by, length, slice_get, slice_index_or, take}
 use Rattle.std.specs.List.{list_any}
 use mathlib.Core.List.{IsPrefix}
+use Rattle.ms_base.specs.Counts.{Rose}
+use Rattle.ms_base.specs.Options.{◌>>=◌}
 use Rattle.ms_base.specs.declared.bytes.NoMemory.{NoMemory}
 use Rattle.ms_core.specs.Views.{log_in, votes_told}
-use Rattle.ms_link.specs.Links.{Learns as PassLearns}
+use Rattle.ms_link.specs.Links.{LinkView, Learns as PassLearns}
 use Rattle.ms_record.specs.declared.ballot.Ballot.{Ballot}
 use Rattle.ms_record.specs.declared.entry.Entry.{Entry}
 use Rattle.ms_record.specs.declared.record.Record.{Record}
@@ -71,28 +73,67 @@ pub record IsSeen (chain : ChainView) (seen : ℕ) : Type 0 where
 abbrev pub HasHalf : List ℕ → List ℕ → Type 0
 HasHalf failed voters = length voters ≤ 2 * count_by (λ v. list_any (λ s. s == v) failed) voters
 
--- a reading of a list, of this service and refused
+-- the reading of a vote list
 abbrev pub IsListing : Deed → Type 0
-IsListing (Listed service list from count ok) = Unit {0}
+IsListing (Listed service list from count ok) = list.0 ≡ 0
 IsListing deed = ⊥
 
-abbrev pub FailedAt : ℕ → Deed → Type 0
-FailedAt s (Listed service list from count false) = service.0 ≡ s
-FailedAt s deed = ⊥
+-- it failed
+abbrev pub IsFailed : Deed → Type 0
+IsFailed (Listed service list from count ok) = ok ≡ false
+IsFailed deed = ⊥
 
--- the deeds of a learning are readings of lists alone; the pass learns, and all else but counts of faults stays
+-- the link of the first lane to the service
+abbrev pub first_link : DeskView → ℕ → Option LinkView
+first_link desk s = slice_get desk.lanes 0 >>= λ links. slice_get links s
+
+-- that link's count of faults rose
+abbrev pub HasFault : DeskView → DeskView → ℕ → Type 0
+HasFault before after s = (old new : LinkView) → first_link before s ≡ Some old → first_link after s ≡ Some new → Rose old.faults new.faults
+
+-- where a setting is told, what was known at entry of the service's vote list was read
+abbrev pub IsFresh : ChainView → DeskView → ℕ → Type 0
+IsFresh new before s = (setting : Setting) → KnowsTold before setting → IsPrefix (vote_texts (log_in before.pass.lists s)) (texts_read new s)
+
+-- so many texts more came of the service's list, all that was known of it among those that were read; or the link failed, and
+-- none came
+abbrev pub Brings : ChainView → ChainView → DeskView → DeskView → ℕ → ℕ → Bool → Type 0
+Brings old new before after s count true = (length (texts_read new s) ≡ length (texts_read old s) + count) × IsFresh new before s
+Brings old new before after s count false = (count ≡ 0) × (texts_read new s ≡ texts_read old s) × HasFault before after s
+
+-- the reading of the service's vote list from where the chain left off, and what it brought
+abbrev pub ReadsOn : ChainView → ChainView → DeskView → DeskView → ℕ → Deed → Type 0
+ReadsOn old new before after s (Listed service list from count ok) =
+    (service.0 ≡ s) × (list.0 ≡ 0) × (from ≡ length (texts_read old s)) × Brings old new before after s count ok
+ReadsOn old new before after s deed = ⊥
+
+-- each service's list was read once, in the order of the services, and `failed` are those whose reading failed
+pub record ReadsAll (old new : ChainView) (before after : DeskView) (failed : List ℕ) : Type 0 where
+  pub more : List Deed
+  pub deeds : after.deeds ≡ before.deeds ++ more
+  pub all : length more ≡ before.services
+  pub each : (s : ℕ) (deed : Deed) → slice_get more s ≡ Some deed → ReadsOn old new before after s deed
+  pub no_others : (s : ℕ) → before.services ≤ s → texts_read new s ≡ texts_read old s
+  pub failed_are : (s : ℕ) → Contains failed s ↔ ((deed : Deed) × (slice_get more s ≡ Some deed) × IsFailed deed)
+
+-- the deeds of a learning are readings of vote lists alone; the pass learns, and all else but counts of faults stays
 pub record DeskLearns (old new : DeskView) : Type 0 where
   pub same : new ≡ record old { pass = new.pass; lanes = new.lanes; deeds = new.deeds }
   pub pass : PassLearns old.pass new.pass
   pub lanes : LanesStay old.lanes new.lanes
   pub deeds : (more : List Deed) × (new.deeds ≡ old.deeds ++ more) × ((deed : Deed) → Contains more deed → IsListing deed)
 
--- at a position up to the one behind the end, half of the voters or more failed in this learning
-pub record LacksMajority (chain : ChainView) (old new : List Deed) (failed : List ℕ) : Type 0 where
-  pub position : ℕ
-  pub within : position ≤ length chain.members
-  pub half : HasHalf failed (voters_behind (origin_of chain.setting) (take position chain.members))
-  pub shown : (s : ℕ) → Contains failed s → (more : List Deed) × (new ≡ old ++ more) × (deed : Deed) × Contains more deed × FailedAt s deed
+-- at a position up to the one behind the end, half of its voters or more are among these services
+pub record LacksMajority (chain : ChainView) (failed : List ℕ) : Type 0 where
+  pub members : ℕ
+  pub within : members ≤ length chain.members
+  pub half : HasHalf failed (voters_behind (origin_of chain.setting) (take members chain.members))
+
+-- each list was read, but for those of fewer than half of the voters of each position up to the one behind the end
+pub record ReadsEnough (old new : ChainView) (before after : DeskView) : Type 0 where
+  pub failed : List ℕ
+  pub reads : ReadsAll old new before after failed
+  pub enough : LacksMajority new failed → ⊥
 
 -- two entries that differ are chosen at one position, by what the chain has read
 pub record IsSplit (chain : ChainView) (position : ℕ) (first second : List ℕ) : Type 0 where
@@ -107,11 +148,20 @@ pub record IsSplit (chain : ChainView) (position : ℕ) (first second : List ℕ
   pub one_named : first ≡ name_of one
   pub other_named : second ≡ name_of other
 
--- what a learning answers
+-- what was learnt: enough was read, no position is split by it, and nothing more is to be gained
+pub record IsLearnt (old new : ChainView) (before after : DeskView) (learnt : Learnt) : Type 0 where
+  pub reads : ReadsEnough old new before after
+  pub one : (position : ℕ) (first second : List ℕ) → IsSplit new position first second → ⊥
+  pub whole : IsWhole new
+  pub end : learnt.end ≡ length new.members
+  pub seen : IsSeen new learnt.seen
+
+-- what a learning answers; a split is judged where enough was read, and never comes where a setting is told
 abbrev pub Learns : ChainView → ChainView → DeskView → DeskView → Result Learnt LearnError → Type 0
-Learns old new before after (Ok learnt) = (learnt.end ≡ length new.members) × IsSeen new learnt.seen × IsWhole new
-Learns old new before after (Err (errors.NoMajority failed)) = LacksMajority new before.deeds after.deeds failed × IsWhole new
-Learns old new before after (Err (errors.Split position first second)) = IsSplit new position first.0 second.0 × ((setting : Setting) → KnowsTold before setting → ⊥)
+Learns old new before after (Ok learnt) = IsLearnt old new before after learnt
+Learns old new before after (Err (errors.NoMajority failed)) = ReadsAll old new before after failed × LacksMajority new failed × IsWhole new
+Learns old new before after (Err (errors.Split position first second)) =
+    ReadsEnough old new before after × IsSplit new position first.0 second.0 × ((setting : Setting) → KnowsTold before setting → ⊥)
 Learns old new before after (Err errors.NoMemory) = Unit {0}
 
 -- what adding a decided entry answers

@@ -26,11 +26,11 @@ pub struct Learnt {
 /// Why nothing was learnt.
 #[derive(Clone, Copy)]
 pub enum LearnError {
-    /// At a position up to the one behind the end, these services failed, half of its voters or more.
+    /// These services failed, at a position up to the one behind the end half of its voters or more.
     NoMajority {
         failed: ServiceSet,
     },
-    /// Two entries of these names are chosen at the position, by the lists that were read.
+    /// Two entries of these names are chosen at the position, by the lists that were read. Judged after `NoMajority`.
     Split {
         position: u32,
         first: Name,
@@ -43,8 +43,8 @@ pub enum LearnError {
 pub trait Learner<W: Work, K: Keeper, L: Link<FoldClosed>> {
     ghost sees: { Self → ChainView };
 
-    /// Reads all vote lists from where it left off; the chain gains each entry that is chosen at its next position, by what it has
-    /// read, and links on.
+    /// Reads each vote list once from where it left off, in the order of the services, by the links of the first lane; the chain
+    /// gains each entry that is chosen at its next position, by what it has read, and links on.
     fn learn(&mut self, alloc: Global, desk: &mut Desk<W, K, L>) -> Result<Learnt, LearnError>
         requires desk { IsDesk (desk_view W.sees K.sees L.sees desk.old) }
         requires chain { IsOfDesk (sees self.old) (desk_view W.sees K.sees L.sees desk.old) }
