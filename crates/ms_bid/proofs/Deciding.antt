@@ -122,10 +122,10 @@ same_accept k b e f h = cc
 pub bid_justified : (b : Bid) → IsBid b → IsOfferJustified b
 bid_justified b h votes entry are fresh is =
     let d : IsPending b (Declare (Accept b.position b.ballot entry)) = subst (λ (a : Act). IsPending b a) is h.pending in
-    let o : IsOfferOf b.first_looks b.voters b.want entry = subst (λ (x : Entry). IsOfferOf b.first_looks b.voters b.want x) (same_accept b.position b.ballot entry d.0 d.1) d.2 in
+    let o : IsOfferOf b.first_looks b.voters b.want entry = subst (λ (x : Entry). IsOfferOf b.first_looks b.voters b.want x) (same_accept b.position b.ballot entry d.1 d.2) d.3 in
     offer_justified votes b.first_looks b.voters b.position b.ballot b.want entry are fresh h.framed.first_of h.framed.own o
 
 pub bid_decided : (b : Bid) → IsBid b → IsDecidedTaken b
 bid_decided b h votes entry are one is =
     let d : IsPending b (End (Decided entry)) = subst (λ (a : Act). IsPending b a) is h.pending in
-    decided_chosen votes b.second_looks b.voters b.position b.ballot entry are one h.framed.second_of d.1
+    decided_chosen votes b.second_looks b.voters b.position b.ballot entry are one h.framed.second_of d.2

@@ -53,20 +53,25 @@ pub record HasNothing (b : Bid) : Type 0 where
   pub most : Most Promise b.first_looks b.voters
   pub no_best : GreatestUpTo b.first_looks (length b.first_looks) None
 
--- a round of looks is over without a majority
+-- a round of looks is over: each voter that did not fail was sent the message and then looked at
+pub record IsLooked (b : Bid) : Type 0 where
+  pub sent : AllSent b.sent b.failed b.voters 16
+  pub seen : AllSeen (seen_of b.offer b.first_looks b.second_looks) b.failed b.voters 16
+
+-- no majority shows what is sought
 abbrev pub Lacks : Bid → Type 0
 Lacks b = Most (sought_of b.offer) (seen_of b.offer b.first_looks b.second_looks) b.voters → ⊥
 
--- how the bid ends
+-- how the bid ends, and when
 abbrev pub IsEnd : Bid → Outcome → Type 0
-IsEnd b (Decided entry) = (b.offer ≡ Some entry) × Most Taken b.second_looks b.voters
-IsEnd b Nothing = HasNothing b × NoneGreater b.first_looks b.ballot
+IsEnd b (Decided entry) = IsLooked b × (b.offer ≡ Some entry) × Most Taken b.second_looks b.voters
+IsEnd b Nothing = IsLooked b × HasNothing b × NoneGreater b.first_looks b.ballot
 IsEnd b (Outbid service top) =
-    LeastGreater (seen_of b.offer b.first_looks b.second_looks) b.ballot service.0 top
+    IsLooked b × LeastGreater (seen_of b.offer b.first_looks b.second_looks) b.ballot service.0 top
     × (HasNothing b ⊎ (Lacks b × (IsHalf b.failed b.voters → ⊥)))
-IsEnd b (NoMajority those) = Lacks b × (those ≡ b.failed) × IsHalf b.failed b.voters
+IsEnd b (NoMajority those) = IsLooked b × Lacks b × (those ≡ b.failed) × IsHalf b.failed b.voters
 IsEnd b (Unlisted service) =
-    Lacks b × EndsUnlisted (sought_of b.offer) (seen_of b.offer b.first_looks b.second_looks) b.voters b.sent b.failed b.ballot service.0
+    IsLooked b × Lacks b × EndsUnlisted (sought_of b.offer) (seen_of b.offer b.first_looks b.second_looks) b.voters b.sent b.failed b.ballot service.0
 IsEnd b KeepFault = b.offer ≡ None
 
 -- nothing was seen in this round of looks, nor in a later one
@@ -92,7 +97,7 @@ IsPending b (Send service message) =
 IsPending b (Look service) =
     IsAsked b service.0 × AllSent b.sent b.failed b.voters 16 × AllSeen (seen_of b.offer b.first_looks b.second_looks) b.failed b.voters service.0 × NoSecond b.offer b.second_looks
 IsPending b (Declare offer) =
-    (entry : Entry) × (offer ≡ Accept b.position b.ballot entry) × IsOfferOf b.first_looks b.voters b.want entry × (b.offer ≡ None) × (b.second_looks ≡ replicate 16 None)
+    IsLooked b × (entry : Entry) × (offer ≡ Accept b.position b.ballot entry) × IsOfferOf b.first_looks b.voters b.want entry × (b.offer ≡ None) × (b.second_looks ≡ replicate 16 None)
 IsPending b (End outcome) = IsEnd b outcome
 
 -- only voters were looked at

@@ -7,7 +7,7 @@ ghost use Rattle.ms_record.specs.declared.sight.Sight.{Sight};
 ghost use Rattle.ms_bid.specs.declared.sight.Sought.TheVariants.{Promise};
 ghost use Rattle.ms_bid.specs.Shown.{Most, GreatestUpTo};
 ghost use Rattle.ms_bid.specs.Ends.{AllSent, AllSeen};
-ghost use Rattle.ms_bid.specs.Bids.{IsFramed, IsBid, IsPending, IsOfferOf, HasNothing, Lacks, IsUnseen, NoSecond, MayFault, message_of, sought_of, seen_of, with_sight, fits, noted, acts_left, left_at, rounds_left};
+ghost use Rattle.ms_bid.specs.Bids.{IsFramed, IsBid, IsPending, IsOfferOf, HasNothing, IsLooked, Lacks, IsUnseen, NoSecond, MayFault, message_of, sought_of, seen_of, with_sight, fits, noted, acts_left, left_at, rounds_left};
 
 use crate::act::{Act, Answer, Outcome, WrongAnswer};
 use crate::flags::Flags;
@@ -70,6 +70,7 @@ impl Bid {
 
     /// What follows where there is nothing to settle.
     fn settled(&self) -> Act
+        requires looked { IsLooked self.now }
         requires nothing { HasNothing self.now }
         ensures pending { IsPending self.now result }
         ensures left { left_at self.now.offer result ≡ 0 }
@@ -87,7 +88,7 @@ impl Bid {
         requires framed { IsFramed self.now }
         requires sought { sought ≡ sought_of self.now.offer }
         requires sights { sights.now ≡ seen_of self.now.offer self.now.first_looks self.now.second_looks }
-        requires sent { AllSent self.now.sent self.now.failed self.now.voters 16 }
+        requires looked { IsLooked self.now }
         requires lacks { Lacks self.now }
         ensures pending { IsPending self.now result }
         ensures left { left_at self.now.offer result ≡ 0 }
@@ -109,7 +110,7 @@ impl Bid {
         requires framed { IsFramed self.now }
         requires before { self.now.offer ≡ None }
         requires no_second { self.now.second_looks ≡ replicate 16 None }
-        requires sent { AllSent self.now.sent self.now.failed self.now.voters 16 }
+        requires looked { IsLooked self.now }
         ensures pending { IsPending self.now result }
         ensures left { left_at self.now.offer result ≤ 33 }
         ensures kept { result ≢ End KeepFault }
@@ -133,7 +134,7 @@ impl Bid {
     fn after_second(&self, entry: Entry) -> Act
         requires framed { IsFramed self.now }
         requires offer { self.now.offer ≡ Some entry }
-        requires sent { AllSent self.now.sent self.now.failed self.now.voters 16 }
+        requires looked { IsLooked self.now }
         ensures pending { IsPending self.now result }
         ensures left { left_at self.now.offer result ≡ 0 }
         ensures kept { result ≢ End KeepFault }
@@ -150,7 +151,7 @@ impl Bid {
     /// What follows the last look.
     fn judged(&self) -> Act
         requires framed { IsFramed self.now }
-        requires sent { AllSent self.now.sent self.now.failed self.now.voters 16 }
+        requires looked { IsLooked self.now }
         requires no_second { NoSecond self.now.offer self.now.second_looks }
         ensures pending { IsPending self.now result }
         ensures left { left_at self.now.offer result ≤ rounds_left self.now.offer }

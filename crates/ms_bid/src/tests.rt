@@ -32,7 +32,7 @@ const BALLOT: Ballot = Ballot {
 /// round 4. Acts: `K` keep, `S` send and `L` look with the service, `A` declare with the entry's number. Ends:
 /// `D` decided with the entry's number, `N` nothing, `O` outbid and `U` unlisted with the service, `M` no majority with
 /// the least service that failed, `F` a fault of the keeper.
-const BIDS: [(&str, u8, u32); 22] = [
+const BIDS: [(&str, u8, u32); 25] = [
     ("", b'K', 3),
     ("k", b'S', 0),
     ("kss", b'S', 2),
@@ -56,6 +56,10 @@ const BIDS: [(&str, u8, u32); 22] = [
     ("ksssppg", b'A', 1),
     ("ksssngg", b'O', 1),
     ("kssspppdsssntg", b'O', 2),
+    // No end comes before each voter that did not fail was looked at.
+    ("ksssbp", b'L', 2),
+    ("ksssg", b'L', 1),
+    ("kffs", b'L', 2),
     // Half of the voters failed, or more.
     ("ksffg", b'M', 1),
     ("kssspppdssstff", b'M', 1),
