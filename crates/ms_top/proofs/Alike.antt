@@ -302,8 +302,9 @@ module _ (one_audit : (dump : Dump) (a b : AuditOf) → IsAudit dump a → IsAud
   judged_of report before after status (inr t) judged = absurd (judged.no_fault t.0)
 
   of_command : (new : OutsideView) (r : Result Report Refusal) → Judged r → Answers command old new r → ByCommand command old new r
-  of_command new r judged (inl h) = absurd (judged.memory (ap (λ (x : Result Report Refusal). status_of (report_of x)) h.1))
-  of_command new r judged (inr h) = h
+  of_command new r judged (inl h) = absurd (judged.memory (ap (λ (x : Result Report Refusal). status_of (report_of x)) h.none_left))
+  of_command new r judged (inr (inl h)) = absurd (judged.memory (ap (λ (x : Result Report Refusal). status_of (report_of x)) h.1))
+  of_command new r judged (inr (inr h)) = h
 
   pub alike : (new other : OutsideView) (before after first last : SinkView) (status again : ℕ) → Runs command old new before after status → Runs command old other first last again → IsJudged status → IsJudged again
       → AreAlike before after status first last again ⊎ HashesCollision command old.inputs

@@ -1,5 +1,5 @@
 -- Each answer has its cause.
-use Rattle.std.proofs.Common.{◌≡◌, ℕ, List, Option, Some, None, IsSome, Result, Err, inl, inr, refl, sym, subst}
+use Rattle.std.proofs.Common.{◌≡◌, ℕ, List, Option, Some, None, IsSome, Result, Err, inl, inr, refl, sym, ap, subst}
 use Rattle.ms_base.specs.Outside.{OutsideView}
 use Rattle.ms_drill.specs.Drills.{drill_at}
 use Rattle.ms_record.specs.declared.refusal.Refusal.{Refusal}
@@ -16,7 +16,7 @@ use Rattle.ms_top.specs.Causes.{CauseOf, FaultOf, LongInput, HasFault, HasAnswer
 use Rattle.ms_top.specs.Drills.{RunSays}
 use Rattle.ms_top.specs.Hashes.{FilesSay}
 use Rattle.ms_top.specs.Inputs.{InputGives, OnInput, TextSays}
-use Rattle.ms_top.specs.Telling.{report_of}
+use Rattle.ms_top.specs.Telling.{NeedsMemory, report_of}
 use Rattle.ms_top.proofs.TextFaults.{IsTextFault, dump_is, drill_is, listing_is}
 
 is_some_of : {A : Type 0} (o : Option A) (a : A) → o ≡ Some a → IsSome o
@@ -79,6 +79,12 @@ module _ (command : Option Command) (old : OutsideView) where
   command_cause (Some (Drill file)) new result q h = input_has_cause Drill drill_at RunSays (λ l. inr (inl l)) (λ f x. inr (inl x)) drill_is file new result q (drill_cause new result) h
   command_cause (Some (Hash file)) new result q h = input_has_cause Hash listing_at FilesSay (λ l. inr (inr l)) (λ f x. inr (inr x)) listing_is file new result q (hash_cause new result) h
 
+  -- an answer that needs memory to be told is that of a command
+  is_asked : (asked : Option Command) (new : OutsideView) (answer : Result Report Refusal) → ByCommand asked old new answer → NeedsMemory (report_of answer) → IsSome asked
+  is_asked None new answer h needs = absurd (needs.words (ap (λ (r : Result Report Refusal). report_of r) h.1))
+  is_asked (Some asked) new answer h needs = refl
+
   pub cause_of : (new : OutsideView) (result : Result Report Refusal) → Answers command old new result → CauseOf command old new (report_of result)
-  cause_of new result (inl h) = moved new result _ h.1 h.0
-  cause_of new result (inr h) = command_cause command new result refl h
+  cause_of new result (inl h) = moved new result _ h.none_left (is_asked command new h.answer h.by_command h.needs)
+  cause_of new result (inr (inl h)) = moved new result _ h.1 h.0
+  cause_of new result (inr (inr h)) = command_cause command new result refl h

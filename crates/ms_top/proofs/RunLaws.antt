@@ -2,6 +2,7 @@
 use Rattle.std.proofs.Common.{◌≡◌, ◌≢◌, ℕ, ◌<◌, List, Option, Some, None, IsSome, Result, Ok, Err, ◌⊎◌, inl, inr, refl, sym, ap, ◌∙◌, subst, arith}
 use Rattle.ms_base.specs.Counts.{Rose, one_more}
 use Rattle.ms_base.specs.Outside.{InputsView, OutsideView, SinkView}
+use Rattle.ms_record.specs.declared.refusal.Place.TheVariants as places
 use Rattle.ms_record.specs.declared.refusal.Refusal.{Refusal}
 use Rattle.ms_record.specs.declared.refusal.Refusal.TheVariants as refusals
 use Rattle.ms_words.specs.declared.command.Command.{Command}
@@ -92,22 +93,19 @@ untold (Some command) old new (Err (refusals.NotEnabled number why)) h = inr h
 
 -- ---- a fault has its count
 
--- a fault, or no memory
+-- the input failed
 abbrev IsFault : Result Report Refusal → Type 0
-IsFault result = (status_of (report_of result) ≡ 3) ⊎ (status_of (report_of result) ≡ 8)
-
-as_fault : (result other : Result Report Refusal) → result ≡ other → IsFault other → IsFault result
-as_fault result other e h = subst IsFault (sym e) h
+IsFault result = result ≡ Err (refusals.OutsideFault places.Input)
 
 refused_rises : (file : List ℕ) (old new : InputsView) (refusal : Refusal) → InputGives file old new (Err refusal) → old.faults < new.faults → IsFault (Err refusal)
-refused_rises file old new refusal (inl h) rises = subst (λ (r : Refusal). IsFault (Err r)) (sym h.0) (inl refl)
+refused_rises file old new refusal (inl h) rises = ap (λ (r : Refusal). Err r) h.0
 refused_rises file old new refusal (inr (inl h)) rises = let same = h.2 in absurd (omega (arith, same, rises))
 refused_rises file old new refusal (inr (inr h)) rises = let same = h.1 in absurd (omega (arith, same, rises))
 
 -- the count of the inputs rises with a fault alone
 input_rises : (Says : List ℕ → Result Report Refusal → Type 0) (file : List ℕ) (old new : OutsideView) (result : Result Report Refusal) → OnInput Says file old new result
     → old.inputs.faults < new.inputs.faults → IsFault result
-input_rises Says file old new result (inl h) rises = as_fault result _ h.2 (refused_rises file old.inputs new.inputs h.0 h.1.gives rises)
+input_rises Says file old new result (inl h) rises = h.2 ∙ refused_rises file old.inputs new.inputs h.0 h.1.gives rises
 input_rises Says file old new result (inr h) rises =
     let same : h.1.inputs.faults ≡ old.inputs.faults = h.2.gives.steady in
     let end : new.inputs.faults ≡ h.1.inputs.faults = ap (λ (v : OutsideView). v.inputs.faults) h.3.0 in
@@ -141,10 +139,9 @@ module _ (command : Option Command) (old new : OutsideView) where
   by_sink report before after status (inl t) rises = let same = t.1.steady in absurd (omega (arith, same, rises))
   by_sink report before after status (inr t) rises = t.0
 
-  by_inputs : (report : Report) (before after : SinkView) (status : ℕ) → Tells report before after status → (status_of report ≡ 3) ⊎ (status_of report ≡ 8) → (status ≡ 3) ⊎ (status ≡ 8)
-  by_inputs report before after status (inl t) (inl e) = inl (t.0 ∙ e)
-  by_inputs report before after status (inl t) (inr e) = inr (t.0 ∙ e)
-  by_inputs report before after status (inr t) said = inl t.0
+  by_inputs : (result : Result Report Refusal) (before after : SinkView) (status : ℕ) → Tells (report_of result) before after status → IsFault result → status ≡ 3
+  by_inputs result before after status (inl t) fault = t.0 ∙ ap (λ (r : Result Report Refusal). status_of (report_of r)) fault
+  by_inputs result before after status (inr t) fault = t.0
 
   -- an answer that was told, where the count of the inputs rose with a fault alone
   told : (result : Result Report Refusal) (before after : SinkView) (status : ℕ) → ReadsOnce command old new result → GoesOn old new → (old.inputs.faults < new.inputs.faults → IsFault result) → Answers command old new result
@@ -162,30 +159,27 @@ module _ (command : Option Command) (old new : OutsideView) where
         faulted = record {
           caused = caused (report_of result) before after status cause tells;
           by_sink = by_sink (report_of result) before after status tells;
-          by_inputs = λ r. by_inputs (report_of result) before after status tells (rises r);
+          by_inputs = λ r. by_inputs result before after status tells (rises r);
         };
       }
 
-  -- what is not told as wrong words is the answer of a command
-  is_asked : (result : Result Report Refusal) → Answers command old new result → report_of result ≢ reports.Refused refusals.Usage → IsSome command
-  is_asked result (inl h) other = h.0
-  is_asked result (inr h) other = by command h
-    where
-      by : (asked : Option Command) → ByCommand asked old new result → IsSome asked
-      by None h = absurd (other (ap (λ (r : Result Report Refusal). report_of r) h.1))
-      by (Some asked) h = refl
-
   -- an answer, or that memory ran out for its lines, is told
-  runs : (result : Result Report Refusal) (before after : SinkView) (status : ℕ) → ReadsOnce command old new result → GoesOn old new → (old.inputs.faults < new.inputs.faults → IsFault result) → Answers command old new result
+  runs : (result : Result Report Refusal) (before after : SinkView) (status : ℕ) → ReadsOnce command old new result → GoesOn old new → (old.inputs.faults < new.inputs.faults → IsFault result) → Carries command old new result
       → TellsOrNoMemory (report_of result) before after status → SinkGoesOn before after → Runs command old new before after status
-  runs result before after status reads goes_on rises answers (inl tells) sink = told result before after status reads goes_on rises answers tells sink
-  runs result before after status reads goes_on rises answers (inr tells) sink =
-      told (Err refusals.NoMemory) before after status (untold command old new result reads) goes_on (λ r. inr refl) (inl (is_asked result answers tells.0, refl)) tells.1 sink
+  runs result before after status reads goes_on rises carries (inl tells) sink = told result before after status reads goes_on rises (inr carries) tells sink
+  runs result before after status reads goes_on rises carries (inr tells) sink =
+      told (Err refusals.NoMemory) before after status (untold command old new result reads) goes_on
+      (λ r. absurd (tells.0.input (ap (λ (x : Result Report Refusal). report_of x) (rises r)))) (by carries) tells.1 sink
+    where
+      by : Carries command old new result → Answers command old new (Err refusals.NoMemory)
+      by (inl h) = inr (inl (h.0, refl, h.2))
+      by (inr h) = inl (record { answer = result; by_command = h; needs = tells.0; none_left = refl })
 
 pub runs_carried : (command : Option Command) (old new : OutsideView) (result : Result Report Refusal) (before after : SinkView) (status : ℕ) → Carries command old new result → TellsOrNoMemory (report_of result) before after status
     → SinkGoesOn before after → Runs command old new before after status
 runs_carried command old new result before after status (inl h) tells sink =
-    runs command old new result before after status (unread command old new result h.1 h.2) (stays old new h.2) (λ rises. as_fault result _ h.1 (inr refl)) (inl (h.0, h.1)) tells sink
+    runs command old new result before after status (unread command old new result h.1 h.2) (stays old new h.2)
+    (λ rises. let same : new.inputs.faults ≡ old.inputs.faults = ap (λ (v : OutsideView). v.inputs.faults) h.2 in absurd (omega (arith, same, rises))) (inl h) tells sink
 runs_carried command old new result before after status (inr by) tells sink =
     runs command old new result before after status (command_once command old new result by) (command_on command old new result by) (command_rises command old new result by) (inr by) tells sink
 

@@ -11,6 +11,7 @@ use Rattle.ms_top.specs.Inputs.{OnInput}
 use Rattle.ms_top.specs.Audits.{AuditSays}
 use Rattle.ms_top.specs.Drills.{DrillSays}
 use Rattle.ms_top.specs.Hashes.{HashSays}
+use Rattle.ms_top.specs.Telling.{NeedsMemory, report_of}
 
 -- words that are no command touch nothing
 abbrev pub ByCommand : Option Command → OutsideView → OutsideView → Result Report Refusal → Type 0
@@ -19,13 +20,20 @@ ByCommand (Some (Audit file)) old new result = OnInput AuditSays file old new re
 ByCommand (Some (Drill file)) old new result = OnInput DrillSays file old new result
 ByCommand (Some (Hash file)) old new result = OnInput HashSays file old new result
 
--- memory runs out for a command, or the command is answered
-abbrev pub Answers : Option Command → OutsideView → OutsideView → Result Report Refusal → Type 0
-Answers command old new result = (IsSome command × (result ≡ Err refusals.NoMemory)) ⊎ ByCommand command old new result
-
 -- memory runs out for the words of a command, and nothing is touched; or the command is answered
 abbrev pub Carries : Option Command → OutsideView → OutsideView → Result Report Refusal → Type 0
 Carries command old new result = (IsSome command × (result ≡ Err refusals.NoMemory) × (new ≡ old)) ⊎ ByCommand command old new result
+
+-- the command has an answer, and memory runs out for telling it
+pub record Untold (command : Option Command) (old new : OutsideView) (result : Result Report Refusal) : Type 0 where
+  pub answer : Result Report Refusal
+  pub by_command : ByCommand command old new answer
+  pub needs : NeedsMemory (report_of answer)
+  pub none_left : result ≡ Err refusals.NoMemory
+
+-- memory runs out for the words or for telling the answer, or the command is answered
+abbrev pub Answers : Option Command → OutsideView → OutsideView → Result Report Refusal → Type 0
+Answers command old new result = Untold command old new result ⊎ Carries command old new result
 
 -- wrong words read nothing, and a command reads its input once; memory may run out before that
 abbrev pub ReadsOnce : Option Command → OutsideView → OutsideView → Result Report Refusal → Type 0

@@ -1,8 +1,11 @@
 -- How an answer is told: its lines go to the sink, and its status is answered.
-use Rattle.std.specs.Prelude.{◌≡◌, ◌≢◌, ℕ, ◌<◌, ◌≤◌, List, length, take, ◌⊎◌, Result, Ok, Err}
+use Rattle.std.specs.Prelude.{◌≡◌, ◌≢◌, ℕ, ◌+◌, ◌<◌, ◌≤◌, List, length, take, ◌⊎◌, Result, Ok, Err}
 use Rattle.std.specs.Io.KnownBytes.{Appends}
 use Rattle.ms_base.specs.Counts.{Rose}
 use Rattle.ms_base.specs.Outside.{OutsideView, SinkView, StaysTold}
+use Rattle.ms_base.specs.declared.limits.TheConstants.{INPUT_BYTES}
+use Rattle.ms_base.specs.declared.names.Quantity.TheVariants as quantities
+use Rattle.ms_record.specs.declared.refusal.Place.TheVariants as places
 use Rattle.ms_record.specs.declared.refusal.Refusal.{Refusal}
 use Rattle.ms_record.specs.declared.refusal.Refusal.TheVariants as refusals
 use Rattle.ms_words.specs.declared.report.Report.{Report}
@@ -39,9 +42,15 @@ no_memory = reports.Refused refusals.NoMemory
 abbrev pub PrintsOrNoMemory : Report → SinkView → SinkView → ℕ → Type 0
 PrintsOrNoMemory report before after status = Tells report before after status ⊎ Tells no_memory before after status
 
--- the same; wrong words are told without memory
+-- the report is none of those whose lines are told without memory: wrong words, an input that failed, one that is too long
+pub record NeedsMemory (report : Report) : Type 0 where
+  pub words : report ≢ reports.Refused refusals.Usage
+  pub input : report ≢ reports.Refused (refusals.OutsideFault places.Input)
+  pub long : report ≢ reports.Refused (refusals.Limit quantities.Input (INPUT_BYTES + 1))
+
+-- the same; memory runs out for no report that is told without
 abbrev pub TellsOrNoMemory : Report → SinkView → SinkView → ℕ → Type 0
-TellsOrNoMemory report before after status = Tells report before after status ⊎ ((report ≢ reports.Refused refusals.Usage) × Tells no_memory before after status)
+TellsOrNoMemory report before after status = Tells report before after status ⊎ (NeedsMemory report × Tells no_memory before after status)
 
 -- the texts of the inputs stay, and no count falls: the next run may come
 pub record GoesOn (old new : OutsideView) : Type 0 where
@@ -53,9 +62,8 @@ pub record SinkGoesOn (before after : SinkView) : Type 0 where
   pub told : StaysTold before.contents after.contents
   pub later : before.faults ≤ after.faults
 
--- status 3 comes where a count rose, and no other where that of the sink did; where that of the inputs did, memory may run out
--- for telling it
+-- status 3 comes exactly where a count rose, as far as it can
 pub record Faulted (old new : OutsideView) (before after : SinkView) (status : ℕ) : Type 0 where
   pub caused : status ≡ 3 → Rose old.inputs.faults new.inputs.faults ⊎ Rose before.faults after.faults
   pub by_sink : before.faults < after.faults → status ≡ 3
-  pub by_inputs : old.inputs.faults < new.inputs.faults → (status ≡ 3) ⊎ (status ≡ 8)
+  pub by_inputs : old.inputs.faults < new.inputs.faults → status ≡ 3

@@ -142,6 +142,12 @@ const NO_COMMANDS: [&[&str]; 4] = [
     &[],
 ];
 
+/// Commands over an input that is not there.
+const ABSENT: [&[&str]; 3] = [&["audit", "e"], &["drill", "e"], &["hash", "e"]];
+
+/// Commands over the input `d`.
+const PRESENT: [&[&str]; 3] = [&["audit", "d"], &["drill", "d"], &["hash", "d"]];
+
 /// The parts, one after the other.
 fn joined(alloc: Global, parts: &[&str]) -> Result<Bytes, NoMemory> {
     let mut text = Vec::new(alloc);
@@ -151,23 +157,19 @@ fn joined(alloc: Global, parts: &[&str]) -> Result<Bytes, NoMemory> {
     Ok(Bytes::from_vec(text))
 }
 
-/// The text of these parts, under the name `d`.
-pub(crate) fn inputs(alloc: Global, parts: &[&str]) -> Result<MemoryInputs, NoMemory> {
-    inputs_failing(alloc, parts, Vec::new(alloc))
-}
-
-/// The same; the calls of these numbers fail.
-fn inputs_failing(
-    alloc: Global,
-    parts: &[&str],
-    fails: Vec<u64>,
-) -> Result<MemoryInputs, NoMemory> {
+/// The text under the name `d`; the calls of these numbers fail.
+pub(crate) fn named(alloc: Global, text: Bytes, fails: Vec<u64>) -> Result<MemoryInputs, NoMemory> {
     let mut texts = Vec::new(alloc);
     texts.push(InputText {
         name: Bytes::of(alloc, b"d")?,
-        text: joined(alloc, parts)?,
+        text,
     })?;
     Ok(MemoryInputs::new(texts, fails))
+}
+
+/// The text of these parts, under the name `d`.
+pub(crate) fn inputs(alloc: Global, parts: &[&str]) -> Result<MemoryInputs, NoMemory> {
+    named(alloc, joined(alloc, parts)?, Vec::new(alloc))
 }
 
 fn words_of(alloc: Global, words: &[&str]) -> Result<Vec<String>, NoMemory> {
@@ -178,6 +180,22 @@ fn words_of(alloc: Global, words: &[&str]) -> Result<Vec<String>, NoMemory> {
     Ok(all)
 }
 
+/// Whether these words, over these inputs, are answered by the lines and the status.
+pub(crate) fn answers_over(
+    alloc: Global,
+    words: &[&str],
+    inputs: Result<MemoryInputs, NoMemory>,
+    lines: &str,
+    wanted: u8,
+) -> bool {
+    let (Ok(words), Ok(mut inputs)) = (words_of(alloc, words), inputs) else {
+        return false;
+    };
+    let mut out = VecSink::new(alloc, 1000, Vec::new(alloc));
+    let status = run(alloc, &words, &mut inputs, &mut out, &FreeGate);
+    out.text() == lines.as_bytes() && status == wanted
+}
+
 /// Whether these words, over the text of these parts, are answered by the lines and the status.
 pub(crate) fn answers(
     alloc: Global,
@@ -186,12 +204,7 @@ pub(crate) fn answers(
     lines: &str,
     wanted: u8,
 ) -> bool {
-    let (Ok(words), Ok(mut inputs)) = (words_of(alloc, words), inputs(alloc, parts)) else {
-        return false;
-    };
-    let mut out = VecSink::new(alloc, 1000, Vec::new(alloc));
-    let status = run(alloc, &words, &mut inputs, &mut out, &FreeGate);
-    out.text() == lines.as_bytes() && status == wanted
+    answers_over(alloc, words, inputs(alloc, parts), lines, wanted)
 }
 
 /// Whether the audit of the dump is answered so, by the call and by the words.
@@ -244,7 +257,8 @@ fn words_outside_the_grammar(rt: HostRuntime) {
 /// The answers of two runs over the same inputs, of which the call with this number fails.
 fn runs_twice(alloc: Global, fails: u64) -> Result<[u8; 2], NoMemory> {
     let words = words_of(alloc, &["audit", "d"])?;
-    let mut inputs = inputs_failing(alloc, &[HEAD_OF_3], Vec::from_slice(alloc, &[fails])?)?;
+    let text = joined(alloc, &[HEAD_OF_3])?;
+    let mut inputs = named(alloc, text, Vec::from_slice(alloc, &[fails])?)?;
     let mut out = VecSink::new(alloc, 1000, Vec::new(alloc));
     let first = run(alloc, &words, &mut inputs, &mut out, &FreeGate);
     let second = run(alloc, &words, &mut inputs, &mut out, &FreeGate);
@@ -256,7 +270,29 @@ fn a_fault_of_the_input_is_that_of_its_run(rt: HostRuntime) {
     let alloc = rt.alloc();
     assert!(rt; runs_twice(alloc, 0) == Ok([3, 0]));
     assert!(rt; runs_twice(alloc, 1) == Ok([0, 3]));
-    assert!(rt; answers(alloc, &["audit", "e"], &[HEAD_OF_3], "fault input\n", 3));
+}
+
+#[test]
+fn inputs_that_are_not_there(rt: HostRuntime) {
+    for words in &ABSENT {
+        assert!(rt; answers(rt.alloc(), words, &[HEAD_OF_3], "fault input\n", 3));
+    }
+}
+
+/// Whether the words are refused over an input of one byte too many.
+fn is_too_long(alloc: Global, words: &[&str]) -> bool {
+    let Ok(text) = vec![in alloc; 0u8; 16_777_217] else {
+        return false;
+    };
+    let inputs = named(alloc, Bytes::from_vec(text), Vec::new(alloc));
+    answers_over(alloc, words, inputs, "limit input 16777217\n", 11)
+}
+
+#[test]
+fn inputs_of_one_byte_too_many(rt: HostRuntime) {
+    for words in &PRESENT {
+        assert!(rt; is_too_long(rt.alloc(), words));
+    }
 }
 
 /// Whether a sink whose second call fails has a front of the lines.
