@@ -190,3 +190,23 @@ fn a_folder_is_scanned(rt: HostRuntime) {
 fn a_folder_that_fails(rt: HostRuntime) {
     assert!(rt; files_shown(rt.alloc(), &[1]).is_none());
 }
+
+/// Whether an empty folder shows a file that was placed there.
+fn shows_a_file(alloc: Global) -> bool {
+    let mut work = MemoryWork::new(Files::new(alloc), Vec::new(alloc));
+    if work.write(alloc, "b", b"B").is_err() {
+        return false;
+    }
+    match work.scan(alloc) {
+        Ok(files) => match files.get("b") {
+            Some(text) => text == b"B".as_slice(),
+            None => false,
+        },
+        Err(_) => false,
+    }
+}
+
+#[test]
+fn a_file_is_placed(rt: HostRuntime) {
+    assert!(rt; shows_a_file(rt.alloc()));
+}
