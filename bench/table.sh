@@ -7,5 +7,5 @@ set -euo pipefail
 source "$(dirname "$(realpath "$0")")/timing.bash"
 
 "$program" table_tests::largest_table >passed
-grep -q "^test table_tests::largest_table \.\.\. ok" passed
+grep -q "^test result: ok" passed
 printf 'largest table: %s ms\n' "$(median 0 "$program" table_tests::largest_table)"
