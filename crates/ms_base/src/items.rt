@@ -1,6 +1,6 @@
 //! Lists that contracts see as lists.
 
-ghost use Rattle.std.specs.Prelude.{◌≡◌, ◌++◌, ◌∷◌, [], length, OnOk, OnErr, slice_get};
+ghost use Rattle.std.specs.Prelude.{◌≡◌, ◌<◌, ◌++◌, ◌∷◌, [], List, Some, length, IfNone, OnOk, OnErr, slice_get};
 ghost use Rattle.std.specs.Option.{option_copied};
 
 use crate::bytes::NoMemory;
@@ -40,6 +40,25 @@ impl<T> Items<T> {
     {
         self.items.push(item)?;
         Ok(())
+    }
+
+    /// Takes the last item away.
+    pub fn pop(&mut self) -> Option<T>
+        ensures last { (front : List T) (last : T) → self.old ≡ front ++ last ∷ [] → (self.new ≡ front) × (result ≡ Some last) }
+        ensures none { IfNone result ((self.old ≡ []) × (self.new ≡ [])) }
+    {
+        self.items.pop()
+    }
+
+    /// Puts the item in the place of the last one.
+    pub fn set_last(&mut self, item: T)
+    where
+        T: Drop,
+        requires { 0 < length self.old }
+        ensures { (front : List T) (last : T) → self.old ≡ front ++ last ∷ [] → self.new ≡ front ++ item ∷ [] }
+    {
+        let last = self.items.len() - 1;
+        self.items[last] = item;
     }
 
     /// How many items there are.

@@ -261,7 +261,8 @@ fn are_begun_as_said(alloc: Global, digits: &str) -> Option<bool> {
     let text = bytes(alloc, digits)?;
     for length in 0..text.len() {
         let begun = &text[..length];
-        if parse(alloc, begun).is_ok() != is_begun(begun) {
+        let is = is_begun(begun);
+        if parse(alloc, begun).is_ok() != is || children(alloc, begun).is_ok() != is {
             return Some(false);
         }
     }

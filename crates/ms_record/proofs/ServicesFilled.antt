@@ -1,5 +1,5 @@
 -- Services put into their places, one after another.
-use Rattle.std.proofs.Common.{◌≡◌, ℕ, suc, ◌+◌, ◌-◌, ◌<◌, ◌≤◌, List, [], ◌∷◌, ◌++◌, Some, refl, sym, ap, ◌∙◌, append_assoc, arith, length, map, take, drop, slice_get, get_or, zero, subst, below_more}
+use Rattle.std.proofs.Common.{◌≡◌, ℕ, suc, ◌+◌, ◌-◌, ◌<◌, ◌≤◌, ◌⊎◌, inl, inr, List, [], ◌∷◌, ◌++◌, Some, refl, sym, ap, ◌∙◌, append_assoc, arith, length, map, take, drop, slice_get, get_or, zero, subst, below_more}
 use Rattle.std.proofs.Math.ListN.{set}
 use Rattle.std.specs.Prelude.{replicate, Contains}
 use Rattle.std.specs.List.{range_with_len}
@@ -12,7 +12,7 @@ use Rattle.ms_record.specs.declared.services.ServiceSet.TheInside.{Inside}
 use Rattle.ms_record.specs.Plans.{PlanView, IsPlan}
 use Rattle.ms_record.specs.Chains.{voters_of}
 use Rattle.ms_record.specs.Services.{AreServices, numbers_of}
-use Rattle.ms_record.specs.ServicesInside.{service_of, places_of, seen, IsKept}
+use Rattle.ms_record.specs.ServicesInside.{service_of, places_of, seen, fields_back, IsKept}
 
 set_seam : (xs : List ServiceId) (y z : ServiceId) (ys : List ServiceId) → set (xs ++ y ∷ ys) (length xs) z ≡ xs ++ z ∷ ys
 set_seam [] y z ys = refl
@@ -164,3 +164,78 @@ not_there ids xs n s are all none c =
     let d : Contains (numbers_of ids) s = subst (λ (l : List ℕ). Contains l s) (sym are) c in
     let within : d.0 < length ids = omega (arith, d.1, length-map ids (λ (x : ServiceId). x.0)) in
     none d.0 (omega (arith, within, all)) (sym (number_get ids d.0 s within) ∙ d.2)
+
+-- ---- a set that grows
+
+no_services : AreServices []
+no_services = record { few = omega arith; below = λ i s at. absurd (none-some s at); rising = λ i s next at after. absurd (none-some s at) }
+
+pub none_kept : IsSetOf (record { services = places_of []; count = 0 }) []
+none_kept = set_of (record { services = places_of []; count = 0 }) [] refl refl no_services
+
+item_there : (xs : List ℕ) (i : ℕ) → i < length xs → (s : ℕ) × (slice_get xs i ≡ Some s)
+item_there [] i h = absurd (omega arith)
+item_there (x ∷ xs) zero h = (x, refl)
+item_there (x ∷ xs) (suc i) h = item_there xs i (omega arith)
+
+item_in : (xs : List ℕ) (i s : ℕ) → slice_get xs i ≡ Some s → Contains xs s
+item_in xs i s at = (i, slice_get_within xs i s at, get_or_from_slice_get xs i s s at)
+
+-- services rise at least as fast as their places
+place_below : (xs : List ℕ) → AreServices xs → (i s : ℕ) → slice_get xs i ≡ Some s → i ≤ s
+place_below xs h zero s at = omega arith
+place_below xs h (suc i) s at =
+    let before = item_there xs i (omega (arith, slice_get_within xs (suc i) s at)) in
+    let same : i + 1 ≡ suc i = omega arith in
+    let next : slice_get xs (i + 1) ≡ Some s = ap (slice_get xs) same ∙ at in
+    omega (arith, place_below xs h i before.0 before.1, h.rising i before.0 s before.1 next)
+
+-- there is room for a service above them all
+pub room_above : (xs : List ℕ) (s : ℕ) → AreServices xs → ((x : ℕ) → Contains xs x → x < s) → s < 16 → length xs < 16
+room_above xs s h above known = elim (some_or_none (length xs) refl) [ inl none ↦ omega (arith, none) | inr some ↦ by_last some ]
+  where
+    some_or_none : (n : ℕ) → length xs ≡ n → (length xs ≡ 0) ⊎ ((i : ℕ) × (length xs ≡ i + 1))
+    some_or_none zero e = inl e
+    some_or_none (suc i) e = inr (i, omega (arith, e))
+
+    by_last : ((i : ℕ) × (length xs ≡ i + 1)) → length xs < 16
+    by_last last =
+        let at = item_there xs last.0 (omega (arith, last.1)) in
+        omega (arith, last.1, place_below xs h last.0 at.0 at.1, above at.0 (item_in xs last.0 at.0 at.1), known)
+
+push_cases : (xs : List ℕ) (s i x : ℕ) → slice_get (xs ++ s ∷ []) i ≡ Some x → (slice_get xs i ≡ Some x) ⊎ ((i ≡ length xs) × (x ≡ s))
+push_cases [] s zero x at = inr (refl, sym (same_Some s x at))
+push_cases [] s (suc i) x at = absurd (none-some x at)
+push_cases (y ∷ xs) s zero x at = inl at
+push_cases (y ∷ xs) s (suc i) x at = elim (push_cases xs s i x at) [ inl h ↦ inl h | inr h ↦ inr (omega (arith, h.0), h.1) ]
+
+more_services : (xs : List ℕ) (s : ℕ) → AreServices xs → ((x : ℕ) → Contains xs x → x < s) → s < 16 → AreServices (xs ++ s ∷ [])
+more_services xs s h above known = record {
+  few = omega (arith, length_push xs s, room_above xs s h above known);
+  below = λ i x at. elim (push_cases xs s i x at) [ inl old ↦ h.below i x old | inr new ↦ omega (arith, new.1, known) ];
+  rising = λ i x next at after. rises i x next (push_cases xs s i x at) (push_cases xs s (i + 1) next after);
+}
+  where
+    rises : (i x next : ℕ) → (slice_get xs i ≡ Some x) ⊎ ((i ≡ length xs) × (x ≡ s)) → (slice_get xs (i + 1) ≡ Some next) ⊎ ((i + 1 ≡ length xs) × (next ≡ s)) → x < next
+    rises i x next (inl at) (inl after) = h.rising i x next at after
+    rises i x next (inl at) (inr after) = omega (arith, after.1, above x (item_in xs i x at))
+    rises i x next (inr at) (inl after) = absurd (omega (arith, at.0, slice_get_within xs (i + 1) next after))
+    rises i x next (inr at) (inr after) = absurd (omega (arith, at.0, after.0))
+
+-- one service more behind those of a set
+pub room_in : (before : Inside) (xs : List ℕ) (s : ℕ) → IsKept before → seen before ≡ xs → ((x : ℕ) → Contains xs x → x < s) → s < 16 → before.count < 16
+room_in before xs s kept shows above known =
+    let count : before.count ≡ length (seen before) = sym (ap (λ (b : Inside). b.count) (fields_back before kept)) in
+    omega (arith, count, ap (λ (l : List ℕ). length l) shows, room_above xs s (subst AreServices shows kept.services) above known)
+
+pub whole_more : (before : Inside) (xs : List ℕ) (service : ServiceId) → IsKept before → seen before ≡ xs → ((x : ℕ) → Contains xs x → x < service.0) → service.0 < 16
+    → IsSetOf (record { services = set before.services before.count service; count = before.count + 1 }) (xs ++ service.0 ∷ [])
+whole_more before xs service kept shows above known =
+    let back = fields_back before kept in
+    let rules : AreServices xs = subst AreServices shows kept.services in
+    let fields : before.services ≡ places_of xs = sym (ap (λ (b : Inside). b.services) back) ∙ ap places_of shows in
+    let count : before.count ≡ length xs = sym (ap (λ (b : Inside). b.count) back) ∙ ap (λ (l : List ℕ). length l) shows in
+    let put : set before.services before.count service ≡ places_of (xs ++ service.0 ∷ []) =
+    ap (λ (l : List ServiceId). set l before.count service) fields ∙ ap (λ (n : ℕ). set (places_of xs) n service) count
+    ∙ placed_more xs service.0 (room_above xs service.0 rules above known) in
+    set_of (record { services = set before.services before.count service; count = before.count + 1 }) (xs ++ service.0 ∷ []) put (omega (arith, count, length_push xs service.0)) (more_services xs service.0 rules above known)

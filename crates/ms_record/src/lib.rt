@@ -25,7 +25,7 @@ pub use log::{ListId, LogEvent};
 pub use mark::{RefMark, parse_mark, write_mark};
 pub use plan::{Plan, PlanRow};
 pub use record::{Record, parse_record};
-pub use refusal::{Place, Refusal, Why, wrong_line};
+pub use refusal::{Place, Refusal, Rival, Rivals, Why, wrong_line};
 pub use services::ServiceSet;
 pub use setting::Setting;
 pub use sight::Sight;

@@ -3,7 +3,9 @@
 ghost use Rattle.std.specs.Prelude.{◌≡◌};
 ghost use Rattle.ms_record.specs.declared.refusal.Refusal.TheVariants as refusals;
 
-use ms_base::{Name, NoMemory, Quantity};
+use crate::ballot::Ballot;
+use crate::services::ServiceSet;
+use ms_base::{Items, Name, NoMemory, Quantity, ServiceId};
 use std::alloc::{AllocError, AllocFailed};
 
 /// Where a fault or a wrong line is.
@@ -37,8 +39,18 @@ pub enum Why {
     Turned,
 }
 
+/// A greater ballot than a bid's, and the service that showed it.
+#[derive(Clone, Copy)]
+pub struct Rival {
+    pub service: ServiceId,
+    pub top: Ballot,
+}
+
+/// What outbid the bids of one call, in their order.
+pub type Rivals = Items<Rival>;
+
 /// Why a call gave no answer. `docs/FORMATS.md` has the statuses and the texts.
-#[derive(Debug, Drop)]
+#[derive(Drop)]
 pub enum Refusal {
     /// The words are outside the grammar of commands.
     Usage,
@@ -50,6 +62,14 @@ pub enum Refusal {
     /// The outside failed there: a count of faults rose.
     OutsideFault {
         place: Place,
+    },
+    /// Of the voters of a position half or more are among these services, whose calls failed.
+    NoMajority {
+        failed: ServiceSet,
+    },
+    /// Each of the bids of a call was outbid.
+    Contended {
+        rivals: Rivals,
     },
     /// Memory ran out.
     NoMemory,
@@ -68,6 +88,11 @@ pub enum Refusal {
     NotEnabled {
         event: u64,
         why: Why,
+    },
+    /// A service took a message of this ballot, and its list does not show it.
+    Unlisted {
+        service: ServiceId,
+        ballot: Ballot,
     },
 }
 

@@ -1,6 +1,6 @@
 //! Sets of services.
 
-ghost use Rattle.std.specs.Prelude.{◌≡◌, ◌≤◌, ◌↔◌, Contains, IsTrue, length};
+ghost use Rattle.std.specs.Prelude.{◌≡◌, ◌<◌, ◌≤◌, ◌↔◌, ◌++◌, ◌∷◌, [], ℕ, Contains, IsTrue, length};
 ghost use Rattle.ms_record.specs.Chains.{voters_of};
 ghost use Rattle.ms_record.specs.Services.{AreServices, numbers_of};
 ghost use Rattle.ms_record.specs.Votes.{services_below};
@@ -48,6 +48,26 @@ impl ServiceSet {
             services,
             count: rows.len(),
         }
+    }
+
+    /// The set without a service.
+    pub fn none() -> ServiceSet
+        ensures { result ≡ [] }
+    {
+        ServiceSet {
+            services: [ServiceId(0); MOST_ROWS],
+            count: 0,
+        }
+    }
+
+    /// Puts in a service that is above all that it has.
+    pub fn add(&mut self, service: ServiceId)
+        requires above { (s : ℕ) → Contains self.old s → s < service.0 }
+        requires known { service.0 < SERVICES }
+        ensures { self.new ≡ self.old ++ service.0 ∷ [] }
+    {
+        self.services[self.count] = service;
+        self.count += 1;
     }
 
     /// The first so many services.

@@ -67,6 +67,9 @@ once command old new (Err refusals.NoMemory) h = inr h
 once command old new (Err (refusals.Split position first second)) h = h
 once command old new (Err (refusals.Limit what value)) h = h
 once command old new (Err (refusals.NotEnabled number why)) h = h
+once command old new (Err (refusals.NoMajority failed)) h = h
+once command old new (Err (refusals.Contended rivals)) h = h
+once command old new (Err (refusals.Unlisted service ballot)) h = h
 
 command_once : (asked : Option Command) (old new : OutsideView) (result : Result Report Refusal) → ByCommand asked old new result → ReadsOnce asked old new result
 command_once None old new result h = ap (λ (v : OutsideView). v.inputs.reads) h.0
@@ -90,6 +93,9 @@ untold (Some command) old new (Err refusals.NoMemory) h = h
 untold (Some command) old new (Err (refusals.Split position first second)) h = inr h
 untold (Some command) old new (Err (refusals.Limit what value)) h = inr h
 untold (Some command) old new (Err (refusals.NotEnabled number why)) h = inr h
+untold (Some command) old new (Err (refusals.NoMajority failed)) h = inr h
+untold (Some command) old new (Err (refusals.Contended rivals)) h = inr h
+untold (Some command) old new (Err (refusals.Unlisted service ballot)) h = inr h
 
 -- ---- a fault has its count
 
@@ -129,6 +135,9 @@ module _ (command : Option Command) (old new : OutsideView) where
   rose (reports.Refused (refusals.Split position first second)) c e = absurd (omega (arith, e))
   rose (reports.Refused (refusals.Limit what value)) c e = absurd (omega (arith, e))
   rose (reports.Refused (refusals.NotEnabled number why)) c e = absurd (omega (arith, e))
+  rose (reports.Refused (refusals.NoMajority failed)) c e = absurd c
+  rose (reports.Refused (refusals.Contended rivals)) c e = absurd c
+  rose (reports.Refused (refusals.Unlisted service ballot)) c e = absurd c
 
   caused : (report : Report) (before after : SinkView) (status : ℕ) → CauseOf command old new report → Tells report before after status → status ≡ 3
       → Rose old.inputs.faults new.inputs.faults ⊎ Rose before.faults after.faults

@@ -60,6 +60,9 @@ stops drill events i event old new given refusal ranges same within at so_far st
     by (refusals.OutsideFault place) s = absurd s
     by (refusals.Split position first second) s = absurd s
     by (refusals.Limit what value) s = absurd s
+    by (refusals.NoMajority failed) s = absurd s
+    by (refusals.Contended rivals) s = absurd s
+    by (refusals.Unlisted service ballot) s = absurd s
 
 client_there : (clients : List ClientView) (i : ℕ) → i < length clients → (c : ClientView) × (slice_get clients i ≡ Some c)
 client_there clients i within = by (slice_get_cases clients i).1

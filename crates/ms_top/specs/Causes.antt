@@ -71,3 +71,4 @@ CauseOf command old new (reports.Refused refusals.NoMemory) = IsSome command
 CauseOf command old new (reports.Refused (refusals.Split position first second)) = Audited command old (Err (refusals.Split position first second))
 CauseOf command old new (reports.Refused (refusals.Limit what value)) = ((what ≡ quantities.Input) × (value ≡ INPUT_BYTES + 1) × LongInput command old) ⊎ (FaultOf command old (refusals.Limit what value) ⊎ Hashed command old (Err (refusals.Limit what value)))
 CauseOf command old new (reports.Refused (refusals.NotEnabled number why)) = Drilled command old (Err (refusals.NotEnabled number why))
+CauseOf command old new (reports.Refused refusal) = ⊥

@@ -9,7 +9,8 @@ use Rattle.ms_record.specs.declared.entry.Entry.{Entry}
 use Rattle.ms_record.specs.declared.refusal.Place.{Place}
 use Rattle.ms_record.specs.declared.refusal.Place.TheVariants as places
 use Rattle.ms_record.specs.declared.refusal.Refusal.{Refusal}
-use Rattle.ms_record.specs.declared.refusal.Refusal.TheVariants.{Usage, BadInput, OutsideFault, NoMemory, Split, Limit, NotEnabled}
+use Rattle.ms_record.specs.declared.refusal.Refusal.TheVariants.{Usage, BadInput, OutsideFault, NoMajority, Contended, NoMemory, Split, Limit, NotEnabled, Unlisted}
+use Rattle.ms_record.specs.declared.refusal.Rival.{Rival}
 use Rattle.ms_record.specs.declared.refusal.Why.{Why}
 use Rattle.ms_record.specs.declared.refusal.Why.TheVariants as whys
 use Rattle.ms_record.specs.Entries.{name_of}
@@ -21,10 +22,13 @@ abbrev pub refusal_status : Refusal → ℕ
 refusal_status Usage = 1
 refusal_status (BadInput place line) = 2
 refusal_status (OutsideFault place) = 3
+refusal_status (NoMajority failed) = 5
+refusal_status (Contended rivals) = 6
 refusal_status NoMemory = 8
 refusal_status (Split position first second) = 10
 refusal_status (Limit what value) = 11
 refusal_status (NotEnabled event why) = 16
+refusal_status (Unlisted service ballot) = 17
 
 abbrev pub status_of : Report → ℕ
 status_of (Refused refusal) = refusal_status refusal
@@ -133,6 +137,27 @@ bad_line place line = codes "bad " ++ text_word place ++ codes " " ++ decimal li
 unfoldable pub fault_line : Place → List ℕ
 fault_line place = codes "fault " ++ place_word place ++ codes "\n"
 
+-- the numbers of services, each behind a space
+abbrev pub service_words : List ℕ → List ℕ
+service_words [] = []
+service_words (s ∷ services) = codes " " ++ decimal s ++ service_words services
+
+-- `no majority` and the numbers of the services that failed
+unfoldable pub no_majority_line : List ℕ → List ℕ
+no_majority_line failed = codes "no majority" ++ service_words failed ++ codes "\n"
+
+-- `service S round ROUND client C`
+unfoldable pub rival_line : Rival → List ℕ
+rival_line rival = codes "service " ++ decimal rival.service.0 ++ codes " round " ++ decimal rival.top.round ++ codes " client " ++ decimal rival.top.client.0 ++ codes "\n"
+
+abbrev pub rival_lines : List Rival → List ℕ
+rival_lines [] = []
+rival_lines (rival ∷ rivals) = rival_line rival ++ rival_lines rivals
+
+-- `unlisted S`
+unfoldable pub unlisted_line : ℕ → List ℕ
+unlisted_line service = codes "unlisted " ++ decimal service ++ codes "\n"
+
 -- `split POSITION NAME NAME`
 unfoldable pub split_line : ℕ → Name → Name → List ℕ
 split_line position first second = codes "split " ++ decimal position ++ codes " " ++ encode_lower first.0 ++ codes " " ++ encode_lower second.0 ++ codes "\n"
@@ -149,10 +174,13 @@ abbrev pub refusal_text : Refusal → List ℕ
 refusal_text Usage = codes "usage\n"
 refusal_text (BadInput place line) = bad_line place line
 refusal_text (OutsideFault place) = fault_line place
+refusal_text (NoMajority failed) = no_majority_line failed
+refusal_text (Contended rivals) = codes "contended\n" ++ rival_lines rivals
 refusal_text NoMemory = codes "no memory\n"
 refusal_text (Split position first second) = split_line position first second
 refusal_text (Limit what value) = limit_line what value
 refusal_text (NotEnabled event why) = event_line event why
+refusal_text (Unlisted service ballot) = unlisted_line service.0
 
 abbrev pub text_of : Report → List ℕ
 text_of (Audit genesis entries) = audit_text genesis.0 entries

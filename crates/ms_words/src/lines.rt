@@ -1,13 +1,14 @@
 //! The lines of reports, each by a function of its own.
 
-ghost use Rattle.std.specs.Prelude.{◌≡◌, ◌++◌, OnOk};
+ghost use Rattle.std.specs.Prelude.{◌≡◌, ◌++◌, OnOk, codes};
 ghost use Rattle.hex.specs.Hex.{encode_lower};
 ghost use Rattle.ms_record.specs.Entries.{name_of};
-ghost use Rattle.ms_words.specs.Texts.{kind_word, generation_word, author_text, member_line, member_lines, audit_text, drill_text, hash_text, known_line, known_lines, bad_line, fault_line, split_line, limit_line, event_line, refusal_text};
+ghost use Rattle.ms_record.specs.Services.{numbers_of};
+ghost use Rattle.ms_words.specs.Texts.{kind_word, generation_word, author_text, member_line, member_lines, audit_text, drill_text, hash_text, known_line, known_lines, bad_line, fault_line, split_line, limit_line, event_line, refusal_text, no_majority_line, rival_line, rival_lines, service_words, unlisted_line};
 
 use crate::reasons::{kind_word, place_word, quantity_word, text_word, why_word};
-use ms_base::{Name, NoMemory, Quantity};
-use ms_record::{Entry, Place, Refusal, Why, entry_name};
+use ms_base::{Name, NoMemory, Quantity, ServiceId};
+use ms_record::{Entry, Place, Refusal, Rival, ServiceSet, Why, entry_name};
 use ms_text::{push_name, push_number, push_text};
 
 fn push_kind(out: &mut Vec<u8>, entry: &Entry) -> Result<(), NoMemory>
@@ -195,6 +196,63 @@ fn push_not_enabled(out: &mut Vec<u8>, event: u64, why: Why) -> Result<(), NoMem
     push_text(out, b"\n")
 }
 
+fn push_services(out: &mut Vec<u8>, services: &[ServiceId]) -> Result<(), NoMemory>
+    ensures { OnOk result (out.new.items ≡ out.old.items ++ service_words (numbers_of services.now)) }
+{
+    for i in 0..services.len() {
+        push_text(out, b" ")?;
+        push_number(out, u64::from(services[i].0))?;
+    }
+    Ok(())
+}
+
+#[tactic(auto, unfolding(crate::specs::Texts::no_majority_line))]
+fn push_no_majority(out: &mut Vec<u8>, failed: &ServiceSet) -> Result<(), NoMemory>
+    ensures { OnOk result (out.new.items ≡ out.old.items ++ no_majority_line failed.now) }
+{
+    push_text(out, b"no majority")?;
+    push_services(out, failed.as_slice())?;
+    push_text(out, b"\n")
+}
+
+#[tactic(auto, unfolding(crate::specs::Texts::rival_line))]
+fn push_rival(out: &mut Vec<u8>, rival: &Rival) -> Result<(), NoMemory>
+    ensures { OnOk result (out.new.items ≡ out.old.items ++ rival_line rival.now) }
+{
+    push_text(out, b"service ")?;
+    push_number(out, u64::from(rival.service.0))?;
+    push_text(out, b" round ")?;
+    push_number(out, u64::from(rival.top.round))?;
+    push_text(out, b" client ")?;
+    push_number(out, u64::from(rival.top.client.0))?;
+    push_text(out, b"\n")
+}
+
+fn push_rivals(out: &mut Vec<u8>, rivals: &[Rival]) -> Result<(), NoMemory>
+    ensures { OnOk result (out.new.items ≡ out.old.items ++ rival_lines rivals.now) }
+{
+    for i in 0..rivals.len() {
+        push_rival(out, &rivals[i])?;
+    }
+    Ok(())
+}
+
+fn push_contended(out: &mut Vec<u8>, rivals: &[Rival]) -> Result<(), NoMemory>
+    ensures { OnOk result (out.new.items ≡ out.old.items ++ (codes "contended\n" ++ rival_lines rivals.now)) }
+{
+    push_text(out, b"contended\n")?;
+    push_rivals(out, rivals)
+}
+
+#[tactic(auto, unfolding(crate::specs::Texts::unlisted_line))]
+fn push_unlisted(out: &mut Vec<u8>, service: ServiceId) -> Result<(), NoMemory>
+    ensures { OnOk result (out.new.items ≡ out.old.items ++ unlisted_line service.0) }
+{
+    push_text(out, b"unlisted ")?;
+    push_number(out, u64::from(service.0))?;
+    push_text(out, b"\n")
+}
+
 /// The lines of a refusal.
 pub(crate) fn push_refusal(out: &mut Vec<u8>, refusal: &Refusal) -> Result<(), NoMemory>
     ensures { OnOk result (out.new.items ≡ out.old.items ++ refusal_text refusal.now) }
@@ -203,6 +261,8 @@ pub(crate) fn push_refusal(out: &mut Vec<u8>, refusal: &Refusal) -> Result<(), N
         Refusal::Usage => push_text(out, b"usage\n"),
         Refusal::BadInput { place, line } => push_bad_input(out, *place, *line),
         Refusal::OutsideFault { place } => push_fault(out, *place),
+        Refusal::NoMajority { failed } => push_no_majority(out, failed),
+        Refusal::Contended { rivals } => push_contended(out, rivals.as_slice()),
         Refusal::NoMemory => push_text(out, b"no memory\n"),
         Refusal::Split {
             position,
@@ -211,5 +271,6 @@ pub(crate) fn push_refusal(out: &mut Vec<u8>, refusal: &Refusal) -> Result<(), N
         } => push_split(out, *position, first, second),
         Refusal::Limit { what, value } => push_limit(out, *what, *value),
         Refusal::NotEnabled { event, why } => push_not_enabled(out, *event, *why),
+        Refusal::Unlisted { service, .. } => push_unlisted(out, *service),
     }
 }

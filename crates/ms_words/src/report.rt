@@ -72,10 +72,13 @@ fn refusal_status(refusal: &Refusal) -> u8
         Refusal::Usage => 1,
         Refusal::BadInput { .. } => 2,
         Refusal::OutsideFault { .. } => 3,
+        Refusal::NoMajority { .. } => 5,
+        Refusal::Contended { .. } => 6,
         Refusal::NoMemory => 8,
         Refusal::Split { .. } => 10,
         Refusal::Limit { .. } => 11,
         Refusal::NotEnabled { .. } => 16,
+        Refusal::Unlisted { .. } => 17,
     }
 }
 

@@ -149,11 +149,14 @@ fn lines_of_a_tree(rt: HostRuntime) {
 }
 
 /// The line and the status of each refusal below.
-const REFUSALS: [(&str, u8); 8] = [
+const REFUSALS: [(&str, u8); 11] = [
     ("usage\n", 1),
     ("bad config 5\n", 2),
     ("bad input 4294967295\n", 2),
     ("fault keep\n", 3),
+    ("no majority 1 15\n", 5),
+    ("contended\nservice 3 round 4294967295 client 15\nservice 0 round 1 client 0\n", 6),
+    ("unlisted 2\n", 17),
     ("no memory\n", 8),
     (
         "split 2 1111111111111111111111111111111111111111111111111111111111111111 \
@@ -164,19 +167,49 @@ const REFUSALS: [(&str, u8); 8] = [
     ("event 18 turned\n", 16),
 ];
 
-fn refusal_at(place: usize) -> Refusal {
+fn ballot(round: u32, client: u32) -> Ballot {
+    Ballot {
+        round,
+        client: ClientId(client),
+    }
+}
+
+fn rival(service: u32, round: u32, client: u32) -> Rival {
+    Rival {
+        service: ServiceId(service),
+        top: ballot(round, client),
+    }
+}
+
+/// Services 1 and 15.
+fn two() -> ServiceSet {
+    let mut failed = ServiceSet::none();
+    failed.add(ServiceId(1));
+    failed.add(ServiceId(15));
+    failed
+}
+
+fn refusal_at(place: usize, rivals: Vec<Rival>) -> Refusal {
     match place {
         0 => Refusal::Usage,
         1 => wrong_line(Place::Config, 5),
         2 => wrong_line(Place::Input, 4_294_967_295),
         3 => Refusal::OutsideFault { place: Place::Keep },
-        4 => Refusal::NoMemory,
-        5 => Refusal::Split {
+        4 => Refusal::NoMajority { failed: two() },
+        5 => Refusal::Contended {
+            rivals: Items::from_vec(rivals),
+        },
+        6 => Refusal::Unlisted {
+            service: ServiceId(2),
+            ballot: ballot(7, 3),
+        },
+        7 => Refusal::NoMemory,
+        8 => Refusal::Split {
             position: 2,
             first: Name([17; 32]),
             second: Name([171; 32]),
         },
-        6 => Refusal::Limit {
+        9 => Refusal::Limit {
             what: Quantity::Input,
             value: 16_777_217,
         },
@@ -188,7 +221,11 @@ fn refusal_at(place: usize) -> Refusal {
 }
 
 fn refusal_tells(alloc: Global, place: usize, told: (&str, u8)) -> bool {
-    let refusal = refusal_at(place);
+    let mut rivals = Vec::new(alloc);
+    if rivals.push(rival(3, 4_294_967_295, 15)).is_err() || rivals.push(rival(0, 1, 0)).is_err() {
+        return false;
+    }
+    let refusal = refusal_at(place, rivals);
     tells(alloc, &Report::Refused { refusal }, told.0, told.1)
 }
 
