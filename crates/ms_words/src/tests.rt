@@ -2,7 +2,7 @@
 
 use crate::{Command, Report, Verb, WordsError, print_report, read_words, status};
 use ms_base::{ClientId, Items, Name, NoMemory, Quantity, ServiceId};
-use ms_record::{Entry, Place, Plan, PlanRow, Refusal, Why, wrong_line};
+use ms_record::{Ballot, Entry, Place, Plan, PlanRow, Refusal, Rival, ServiceSet, Why, wrong_line};
 use std::alloc::Global;
 use std::test::*;
 
@@ -155,7 +155,10 @@ const REFUSALS: [(&str, u8); 11] = [
     ("bad input 4294967295\n", 2),
     ("fault keep\n", 3),
     ("no majority 1 15\n", 5),
-    ("contended\nservice 3 round 4294967295 client 15\nservice 0 round 1 client 0\n", 6),
+    (
+        "contended\nservice 3 round 4294967295 client 15\nservice 0 round 1 client 0\n",
+        6,
+    ),
     ("unlisted 2\n", 17),
     ("no memory\n", 8),
     (
