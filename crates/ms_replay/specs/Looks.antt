@@ -1,11 +1,14 @@
 -- What a look at a vote list keeps of the records that it has read.
-use Rattle.std.specs.Prelude.{◌≡◌, ℕ, true, List, Option, if◌then◌else◌}
+use Rattle.std.specs.Prelude.{◌≡◌, ℕ, true, List, Option, IfSome, if◌then◌else◌}
 use Rattle.ms_record.specs.declared.acceptor.Verdict.{Verdict}
 use Rattle.ms_record.specs.declared.acceptor.Verdict.TheVariants.{Promised, Taken, Outbid, Elsewhere}
 use Rattle.ms_record.specs.declared.ballot.Ballot.{Ballot}
 use Rattle.ms_record.specs.declared.ballot.Vote.{Vote}
 use Rattle.ms_record.specs.declared.record.Record.{Record}
+use Rattle.ms_record.specs.declared.sight.Sight.{Sight}
 use Rattle.ms_record.specs.Acceptors.{IsAcceptorOf}
+use Rattle.ms_record.specs.Entries.{IsEntry}
+use Rattle.ms_record.specs.Records.{IsBallot}
 use Rattle.ms_record.specs.Sights.{ShowsPromise, ShowsTaken}
 use Rattle.ms_replay.specs.declared.looking.Look.{Look}
 
@@ -30,3 +33,8 @@ after_verdict look (Promised best) = with_promise look best
 after_verdict look Taken = record look { taken = true }
 after_verdict look (Outbid top) = look
 after_verdict look Elsewhere = look
+
+-- what a list shows is in the ranges of the grammar
+pub record IsInRange (sight : Sight) : Type 0 where
+  pub best : IfSome sight.best (λ vote. IsBallot vote.ballot × IsEntry vote.entry)
+  pub top : IfSome sight.top IsBallot

@@ -1,11 +1,12 @@
 //! What a vote list shows of a bid.
 
-ghost use Rattle.std.specs.Prelude.{◌≡◌, ◌↔◌, ℕ, List, ◌++◌, ◌∷◌, [], IsTrue};
+ghost use Rattle.std.specs.Prelude.{◌≡◌, ◌↔◌, ℕ, List, ◌++◌, ◌∷◌, [], IfSome, IsTrue};
 ghost use Rattle.ms_record.specs.declared.ballot.Ballot.{Ballot};
 ghost use Rattle.ms_record.specs.declared.record.Record.{Record};
 ghost use Rattle.ms_record.specs.Reading.{record_at, votes_of, with_record};
+ghost use Rattle.ms_record.specs.Records.{IsRecord};
 ghost use Rattle.ms_record.specs.Sights.{IsSight};
-ghost use Rattle.ms_replay.specs.Looks.{HasShown, IsOfBid, after_verdict, with_promise};
+ghost use Rattle.ms_replay.specs.Looks.{HasShown, IsInRange, IsOfBid, after_verdict, with_promise};
 
 use ms_base::Bytes;
 use ms_record::{Acceptor, Ballot, Record, Sight, Verdict, Vote, parse_record};
@@ -73,6 +74,7 @@ impl Look {
     fn feed_text(&mut self, text: &[u8])
         ensures bid { (position : ℕ) (ballot : Ballot) → IsOfBid position ballot self.old → IsOfBid position ballot self.new }
         ensures goes_on { (records : List Record) → HasShown records self.old → HasShown (records ++ with_record (record_at text.now) []) self.new }
+        ensures ranges { IfSome (record_at text.now) IsRecord }
     {
         if let Some(message) = parse_record(text) {
             self.feed(&message);
@@ -103,7 +105,8 @@ fn is_one(one: Ballot, other: Ballot) -> bool
 /// Best before the first such place, whether an Accept of the ballot is taken, and the greatest ballot at the position.
 /// Texts that are no records are skipped. `docs/PROTOCOL.md`, bids.
 pub fn sight(list: &[Bytes], position: u32, ballot: Ballot) -> Sight
-    ensures { IsSight (votes_of list.now) position ballot result }
+    ensures is { IsSight (votes_of list.now) position ballot result }
+    ensures ranges { IsInRange result }
 {
     let mut look = Look::at(position, ballot);
     for text in list {
