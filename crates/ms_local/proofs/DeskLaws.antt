@@ -14,13 +14,14 @@ use Rattle.ms_link.specs.Links.{IsOnBoard, Learns, LinkView}
 use Rattle.ms_record.specs.declared.item.Item.{Item}
 use Rattle.ms_record.specs.declared.item.Item.TheVariants.{Offer, Told}
 use Rattle.ms_record.specs.declared.record.Record.{Record}
+use Rattle.ms_record.specs.declared.setting.Setting.{Setting}
 use Rattle.ms_record.specs.Items.{offer_in, offers_of_items}
 use Rattle.ms_record.specs.Votes.{ballot_of}
 use Rattle.ms_local.specs.declared.deed.Deed.{Deed}
 use Rattle.ms_local.specs.declared.kept.Kept.{Kept}
 use Rattle.ms_local.specs.declared.kept.Key.{Key}
 use Rattle.ms_local.specs.declared.kept.Key.TheVariants.{State, Object}
-use Rattle.ms_local.specs.Desks.{AreWithin, DeskView, HasKeptRound, IsDesk, IsLane, LanesStay, LinksStay, MayKeepRound, TellLists, round_of, with_deed}
+use Rattle.ms_local.specs.Desks.{AreWithin, DeskView, HasKeptRound, IsDesk, IsLane, KnowsTold, LanesStay, LinksStay, MayKeepRound, TellLists, round_of, with_deed}
 use Rattle.ms_local.specs.Keeping.{MayHaveState, WritesKept, state_of}
 use Rattle.ms_local.specs.Outside.{KeeperView, KeptTexts, MayBeKept, WhereTold, WorkView, Writes}
 
@@ -46,7 +47,7 @@ with_keeper desk keep h told bounds = record {
   lanes = h.lanes;
   telling = λ setting known.
       let t = h.telling setting known in
-      record { lists = t.lists; texts = told ∙ t.texts; rounds = bounds t.texts t.rounds };
+      record { services = t.services; client = t.client; lists = t.lists; texts = told ∙ t.texts; rounds = bounds t.texts t.rounds };
 }
 
 pub read_stays : (desk : DeskView) (faults : ℕ) → IsDesk desk → IsDesk (record desk { keep = record desk.keep { faults = faults } })
@@ -109,8 +110,9 @@ state_stays desk kept keep result h told may writes =
 
 -- ---- deeds and the folder
 
-pub deed_stays : (desk : DeskView) (deed : Deed) → IsDesk desk → IsDesk (with_deed desk deed)
-deed_stays desk deed h = record {
+-- the deeds of a desk are free
+pub deeds_free : (desk : DeskView) (deeds : List Deed) → IsDesk desk → IsDesk (record desk { deeds = deeds })
+deeds_free desk deeds h = record {
   client = h.client;
   some_services = h.some_services;
   few_services = h.few_services;
@@ -120,8 +122,11 @@ deed_stays desk deed h = record {
   knows = h.knows;
   some_lanes = h.some_lanes;
   lanes = h.lanes;
-  telling = λ setting known. let t = h.telling setting known in record { lists = t.lists; texts = t.texts; rounds = t.rounds };
+  telling = λ setting known. let t = h.telling setting known in record { services = t.services; client = t.client; lists = t.lists; texts = t.texts; rounds = t.rounds };
 }
+
+pub deed_stays : (desk : DeskView) (deed : Deed) → IsDesk desk → IsDesk (with_deed desk deed)
+deed_stays desk deed h = deeds_free desk (desk.deeds ++ deed ∷ []) h
 
 pub work_stays : (desk : DeskView) (work : WorkView) → IsDesk desk → IsDesk (record desk { work = work })
 work_stays desk work h = record {
@@ -134,7 +139,7 @@ work_stays desk work h = record {
   knows = h.knows;
   some_lanes = h.some_lanes;
   lanes = h.lanes;
-  telling = λ setting known. let t = h.telling setting known in record { lists = t.lists; texts = t.texts; rounds = t.rounds };
+  telling = λ setting known. let t = h.telling setting known in record { services = t.services; client = t.client; lists = t.lists; texts = t.texts; rounds = t.rounds };
 }
 
 -- ---- calls on links
@@ -165,6 +170,11 @@ own_offers old new client is learns =
     let same : list_at new.lists (owner_of_client client) ≡ list_at old.lists (owner_of_client client) = subst (λ (w : Option ℕ). IfSome w (λ k. list_at new.lists k ≡ list_at old.lists k)) is learns.own in
     ap offers_of_items same
 
+-- what is told then was told before
+pub told_back : (desk : DeskView) (pass : Known Item) (setting : Setting) → IsDesk desk → Learns desk.pass pass → KnowsTold (record desk { pass = pass }) setting → KnowsTold desk setting
+told_back desk pass setting h learns known =
+    begins_one (list_at desk.pass.lists configuration) (Told setting) h.knows (subst (λ (items : List Item). IsPrefix (list_at desk.pass.lists configuration) items) known (learns.more configuration))
+
 links_lead : (board : TableId) (services : ℕ) (old new : List LinkView) → LinksStay old new → IsLane board services old → IsLane board services new
 links_lead board services old new stay lane = record {
   all = stay.all ∙ lane.all;
@@ -192,9 +202,10 @@ call_stays desk pass lanes h learns stay = record {
   some_lanes = let all = stay.all in let some = h.some_lanes in omega arith;
   lanes = λ place links got. let b = stay.each place links got in links_lead desk.board desk.services b.0 links b.2 (h.lanes place b.0 b.1);
   telling = λ setting known.
-      let begins = subst (λ (items : List Item). IsPrefix (list_at desk.pass.lists configuration) items) known (learns.more configuration) in
-      let t = h.telling setting (begins_one (list_at desk.pass.lists configuration) (Told setting) h.knows begins) in
+      let t = h.telling setting (told_back desk pass setting h learns known) in
       record {
+        services = t.services;
+        client = t.client;
         lists = λ place links got. let b = stay.each place links got in links_tell b.0 links b.2 (t.lists place b.0 b.1);
         texts = t.texts;
         rounds = subst (λ (offers : List Record). Bounds (desk.keep.texts State) offers) (sym (own_offers desk.pass pass desk.client h.word learns)) t.rounds;
@@ -260,6 +271,8 @@ offer_at desk offer h may =
           let t = h.telling setting (sym same ∙ known) in
           let m = may t.texts in
           record {
+            services = t.services;
+            client = t.client;
             lists = t.lists;
             texts = t.texts;
             rounds = bound_known (round_of (desk.keep.texts State)) m.0 (offers_told (with_item desk.pass.lists owner (Offer offer)) desk.client) m.1

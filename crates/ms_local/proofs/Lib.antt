@@ -5,3 +5,4 @@ mod KeepingLaws
 mod Running
 mod DeskLaws
 mod Showing
+mod FirstLane

@@ -1,7 +1,8 @@
 -- Desks: what contracts see of one, and what is true of each.
-use Rattle.std.specs.Prelude.{◌≡◌, ◌≢◌, ℕ, ◌<◌, ◌≤◌, true, List, [], ◌∷◌, ◌++◌, Option, Some, None, IfSome, length, map, slice_get, Contains}
+use Rattle.std.specs.Prelude.{◌≡◌, ◌≢◌, ℕ, ◌<◌, ◌≤◌, true, List, [], ◌∷◌, ◌++◌, Option, Some, None, IfSome, length, map, slice_get, slice_index_or, Contains}
 use Rattle.std.specs.Arc.{arc_value}
-use Rattle.std.specs.Option.{option_map}
+use Rattle.std.specs.Option.{option_map, option_map_or}
+use Rattle.ms_base.specs.Counts.{Rose}
 use Rattle.ms_core.specs.Views.{configuration, offers_told, owner_of_client}
 use Rattle.ms_ken.specs.Known.{TableId, Known}
 use Rattle.ms_ken.specs.Lists.{list_at}
@@ -63,9 +64,11 @@ AreWithin offers round = (offer : Record) → Contains offers offer → (ballot_
 abbrev pub TellLists : List LinkView → Type 0
 TellLists links = (place : ℕ) (link : LinkView) → slice_get links place ≡ Some link → link.lists ≡ true
 
--- what is true where a setting is told: the links tell their lists and the keeper its texts, and no offer of the client has a round
--- above the kept one
-pub record IsTelling (desk : DeskView) : Type 0 where
+-- what is true where this setting is told: it has the desk's services, and its client; the links tell their lists and the keeper
+-- its texts, and no offer of the client has a round above the kept one
+pub record IsTelling (desk : DeskView) (setting : Setting) : Type 0 where
+  pub services : desk.services ≡ setting.services
+  pub client : desk.client < setting.clients
   pub lists : (place : ℕ) (links : List LinkView) → slice_get desk.lanes place ≡ Some links → TellLists links
   pub texts : desk.keep.told ≡ true
   pub rounds : IfSome (round_of (desk.keep.texts State)) (AreWithin (offers_told desk.pass.lists desk.client))
@@ -73,6 +76,24 @@ pub record IsTelling (desk : DeskView) : Type 0 where
 -- the pass knows that this setting is told
 abbrev pub KnowsTold : DeskView → Setting → Type 0
 KnowsTold desk setting = list_at desk.pass.lists configuration ≡ Told setting ∷ []
+
+-- a fact where a setting is told, and one of the setting that is told
+abbrev pub OnTold : DeskView → Type 0 → Type 0
+OnTold desk P = (setting : Setting) → KnowsTold desk setting → P
+
+abbrev pub OnTold' : DeskView → (Setting → Type 0) → Type 0
+OnTold' desk P = (setting : Setting) → KnowsTold desk setting → P setting
+
+-- the link of the first lane to the service, and its count of faults
+abbrev pub first_link : DeskView → ℕ → Option LinkView
+first_link desk s = slice_get (slice_index_or desk.lanes 0 []) s
+
+abbrev pub faults_at : DeskView → ℕ → ℕ
+faults_at desk s = option_map_or (λ (link : LinkView). link.faults) (first_link desk s) 0
+
+-- that count rose
+abbrev pub HasFault : DeskView → DeskView → ℕ → Type 0
+HasFault before after s = Rose (faults_at before s) (faults_at after s)
 
 -- the pass owns its client's word and knows the item of the configuration; the links of each lane are of the desk's board
 pub record IsDesk (desk : DeskView) : Type 0 where
@@ -85,7 +106,7 @@ pub record IsDesk (desk : DeskView) : Type 0 where
   pub knows : list_at desk.pass.lists configuration ≢ []
   pub some_lanes : 1 ≤ length desk.lanes
   pub lanes : (place : ℕ) (links : List LinkView) → slice_get desk.lanes place ≡ Some links → IsLane desk.board desk.services links
-  pub telling : (setting : Setting) → KnowsTold desk setting → IsTelling desk
+  pub telling : (setting : Setting) → KnowsTold desk setting → IsTelling desk setting
 
 -- each link of the one list stays what it was in the other
 pub record LinksStay (old new : List LinkView) : Type 0 where

@@ -2,14 +2,14 @@
 use Rattle.std.specs.Prelude.{◌≡◌, ◌⊎◌, ◌↔◌, ℕ, ◌+◌, ◌*◌, ◌<◌, ◌≤◌, ◌==◌, Bool, true, false, List, [], ◌∷◌, ◌++◌, Option, Some, Result, Ok, Err, Contains, count_by, length, slice_get, slice_index_or, take}
 use Rattle.std.specs.List.{list_any}
 use mathlib.Core.List.{IsPrefix}
-use Rattle.ms_base.specs.Counts.{Rose}
-use Rattle.ms_base.specs.Options.{◌>>=◌}
 use Rattle.ms_base.specs.declared.bytes.NoMemory.{NoMemory}
 use Rattle.ms_core.specs.Views.{log_in, votes_told}
-use Rattle.ms_link.specs.Links.{LinkView, Learns as PassLearns}
+use Rattle.ms_link.specs.Links.{Learns as PassLearns}
 use Rattle.ms_record.specs.declared.ballot.Ballot.{Ballot}
 use Rattle.ms_record.specs.declared.entry.Entry.{Entry}
 use Rattle.ms_record.specs.declared.record.Record.{Record}
+use Rattle.ms_record.specs.declared.refusal.Refusal.{Refusal}
+use Rattle.ms_record.specs.declared.refusal.Refusal.TheVariants as refusals
 use Rattle.ms_record.specs.declared.setting.Setting.{Setting}
 use Rattle.ms_record.specs.Chains.{IsLinked, LinksBehind, voters_behind}
 use Rattle.ms_record.specs.Entries.{name_of}
@@ -20,9 +20,7 @@ use Rattle.ms_record.specs.Votes.{ChosenBy, IsTaken}
 use Rattle.ms_local.specs.declared.deed.Deed.{Deed}
 use Rattle.ms_local.specs.declared.deed.Deed.TheVariants.{Listed}
 use Rattle.ms_local.specs.declared.learner.Learnt.{Learnt}
-use Rattle.ms_local.specs.declared.learner.LearnError.{LearnError}
-use Rattle.ms_local.specs.declared.learner.LearnError.TheVariants as errors
-use Rattle.ms_local.specs.Desks.{DeskView, KnowsTold, LanesStay}
+use Rattle.ms_local.specs.Desks.{DeskView, HasFault, KnowsTold, LanesStay, OnTold}
 
 -- a chain: the setting that it begins with, its members behind the genesis, and the texts that it has read of each vote list
 pub record ChainView : Type 0 where
@@ -83,17 +81,9 @@ abbrev pub IsFailed : Deed → Type 0
 IsFailed (Listed service list from count ok) = ok ≡ false
 IsFailed deed = ⊥
 
--- the link of the first lane to the service
-abbrev pub first_link : DeskView → ℕ → Option LinkView
-first_link desk s = slice_get desk.lanes 0 >>= λ links. slice_get links s
-
--- that link's count of faults rose
-abbrev pub HasFault : DeskView → DeskView → ℕ → Type 0
-HasFault before after s = (old new : LinkView) → first_link before s ≡ Some old → first_link after s ≡ Some new → Rose old.faults new.faults
-
 -- where a setting is told, what was known at entry of the service's vote list was read
 abbrev pub IsFresh : ChainView → DeskView → ℕ → Type 0
-IsFresh new before s = (setting : Setting) → KnowsTold before setting → IsPrefix (vote_texts (log_in before.pass.lists s)) (texts_read new s)
+IsFresh new before s = OnTold before (IsPrefix (vote_texts (log_in before.pass.lists s)) (texts_read new s))
 
 -- so many texts more came of the service's list, all that was known of it among those that were read; or the link failed, and
 -- none came
@@ -115,6 +105,25 @@ pub record ReadsAll (old new : ChainView) (before after : DeskView) (failed : Li
   pub each : (s : ℕ) (deed : Deed) → slice_get more s ≡ Some deed → ReadsOn old new before after s deed
   pub no_others : (s : ℕ) → before.services ≤ s → texts_read new s ≡ texts_read old s
   pub failed_are : (s : ℕ) → Contains failed s ↔ ((deed : Deed) × (slice_get more s ≡ Some deed) × IsFailed deed)
+
+-- so many texts of the service's list came, of which not all may have been taken; or the link failed, and none came
+abbrev pub Begins : ChainView → ChainView → DeskView → DeskView → ℕ → ℕ → Bool → Type 0
+Begins old new before after s count true = length (texts_read new s) ≤ length (texts_read old s) + count
+Begins old new before after s count false = (count ≡ 0) × (texts_read new s ≡ texts_read old s) × HasFault before after s
+
+-- the reading of the service's vote list from where the chain left off
+abbrev pub StartsOn : ChainView → ChainView → DeskView → DeskView → ℕ → Deed → Type 0
+StartsOn old new before after s (Listed service list from count ok) =
+    (service.0 ≡ s) × (list.0 ≡ 0) × (from ≡ length (texts_read old s)) × Begins old new before after s count ok
+StartsOn old new before after s deed = ⊥
+
+-- whatever is answered, the lists of the first services were read once each, in the order of the services
+pub record ReadsSome (old new : ChainView) (before after : DeskView) : Type 0 where
+  pub more : List Deed
+  pub deeds : after.deeds ≡ before.deeds ++ more
+  pub few : length more ≤ before.services
+  pub each : (s : ℕ) (deed : Deed) → slice_get more s ≡ Some deed → StartsOn old new before after s deed
+  pub no_others : (s : ℕ) → length more ≤ s → texts_read new s ≡ texts_read old s
 
 -- the deeds of a learning are readings of vote lists alone; the pass learns, and all else but counts of faults stays
 pub record DeskLearns (old new : DeskView) : Type 0 where
@@ -148,6 +157,10 @@ pub record IsSplit (chain : ChainView) (position : ℕ) (first second : List ℕ
   pub one_named : first ≡ name_of one
   pub other_named : second ≡ name_of other
 
+-- some two are chosen there
+abbrev pub SplitsAt : ChainView → ℕ → Type 0
+SplitsAt chain position = (first second : List ℕ) × IsSplit chain position first second
+
 -- what was learnt: enough was read, no position is split by it, and nothing more is to be gained
 pub record IsLearnt (old new : ChainView) (before after : DeskView) (learnt : Learnt) : Type 0 where
   pub reads : ReadsEnough old new before after
@@ -156,13 +169,15 @@ pub record IsLearnt (old new : ChainView) (before after : DeskView) (learnt : Le
   pub end : learnt.end ≡ length new.members
   pub seen : IsSeen new learnt.seen
 
--- what a learning answers; a split is judged where enough was read, and never comes where a setting is told
-abbrev pub Learns : ChainView → ChainView → DeskView → DeskView → Result Learnt LearnError → Type 0
+-- what a learning answers, and no other refusal; a split is judged where enough was read, and never comes where a setting is told
+abbrev pub Learns : ChainView → ChainView → DeskView → DeskView → Result Learnt Refusal → Type 0
 Learns old new before after (Ok learnt) = IsLearnt old new before after learnt
-Learns old new before after (Err (errors.NoMajority failed)) = ReadsAll old new before after failed × LacksMajority new failed × IsWhole new
-Learns old new before after (Err (errors.Split position first second)) =
-    ReadsEnough old new before after × IsSplit new position first.0 second.0 × ((setting : Setting) → KnowsTold before setting → ⊥)
-Learns old new before after (Err errors.NoMemory) = Unit {0}
+Learns old new before after (Err (refusals.NoMajority failed)) =
+    ReadsAll old new before after failed × LacksMajority new failed × (IsWhole new ⊎ SplitsAt new (length new.members + 1))
+Learns old new before after (Err (refusals.Split position first second)) =
+    ReadsEnough old new before after × IsSplit new position first.0 second.0 × OnTold before ⊥
+Learns old new before after (Err refusals.NoMemory) = Unit {0}
+Learns old new before after (Err refusal) = ⊥
 
 -- what adding a decided entry answers
 abbrev pub Adds : ChainView → ChainView → Entry → Result Bool NoMemory → Type 0

@@ -4,4 +4,5 @@ pub mod Memory
 pub mod Keeping
 pub mod Rules
 pub mod Desks
+pub mod Calls
 pub mod Learning

@@ -3,19 +3,23 @@
 ghost use Rattle.std.specs.Prelude.{◌≡◌, ℕ, List, Some, Result, slice_get};
 ghost use Rattle.ms_base.specs.declared.names.Name.{Name};
 ghost use Rattle.ms_base.specs.declared.outside.OutsideError.{OutsideError};
+ghost use Rattle.ms_core.specs.Views.{IsClosed};
 ghost use Rattle.ms_ken.specs.Known.{Known};
 ghost use Rattle.ms_ken.specs.Lists.{with_told};
 ghost use Rattle.ms_link.specs.Links.{IsOnBoard, Learns, LinkView};
 ghost use Rattle.ms_record.specs.declared.item.Item.{Item};
 ghost use Rattle.ms_record.specs.declared.item.Item.TheVariants.{Offer};
 ghost use Rattle.ms_record.specs.declared.record.Record.{Record};
+ghost use Rattle.ms_record.specs.declared.setting.Setting.{Setting};
 ghost use Rattle.ms_record.specs.Votes.{ballot_of};
 ghost use Rattle.ms_local.specs.declared.deed.Deed.{Deed};
 ghost use Rattle.ms_local.specs.declared.kept.Kept.{Kept};
 ghost use Rattle.ms_local.specs.declared.kept.Key.TheVariants.{Object};
-ghost use Rattle.ms_local.specs.Desks.{DeskView, HasKeptRound, IsDesk, LanesStay, MayKeepRound, with_deed};
+ghost use Rattle.ms_local.specs.Desks.{DeskView, HasKeptRound, IsDesk, KnowsTold, LanesStay, MayKeepRound, with_deed};
 ghost use Rattle.ms_local.specs.Keeping.{WritesKept};
 ghost use Rattle.ms_local.specs.Outside.{KeeperView, WorkView, Writes};
+
+use ms_core::item_law::configuration_stays;
 
 /// Each thing that a command does at a desk leaves what is true of every desk, whatever it answers.
 pub fn desks_stay()
@@ -37,7 +41,18 @@ pub fn desks_stay()
     // An offer is told whose round is kept.
     ensures offer { (desk : DeskView) (offer : Record) → IsDesk desk → HasKeptRound desk (ballot_of offer).round
         → IsDesk (record desk { pass = record desk.pass { lists = with_told desk.pass.lists desk.pass.word (Offer offer) } }) }
+    // Lanes stay from call to call.
+    ensures lanes_self { (lanes : List (List LinkView)) → LanesStay lanes lanes }
+    ensures lanes_on { (old mid new : List (List LinkView)) → LanesStay old mid → LanesStay mid new → LanesStay old new }
 {}
+
+/// A setting that is told at a desk was told there before, and stays told.
+pub fn tellings_stay()
+    ensures back { (desk : DeskView) (pass : Known Item) (setting : Setting) → IsDesk desk → Learns desk.pass pass → KnowsTold (record desk { pass = pass }) setting → KnowsTold desk setting }
+    ensures on { (desk : DeskView) (pass : Known Item) (setting : Setting) → IsClosed pass.lists → Learns desk.pass pass → KnowsTold desk setting → KnowsTold (record desk { pass = pass }) setting }
+{
+    configuration_stays();
+}
 
 /// Each link of a desk is on the board of the desk and of its pass, and leads to the service of its place.
 pub fn desks_lead()

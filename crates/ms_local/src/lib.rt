@@ -1,6 +1,7 @@
 //! What a client has beside the services: its kept state and its work folder, its desk, and the deeds of its commands.
 #![tactic(auto)]
 
+pub mod calling;
 pub mod deed;
 pub mod deed_law;
 pub mod desk;
@@ -12,13 +13,14 @@ pub mod memory;
 pub mod outside;
 pub mod spelling;
 
+pub use calling::{append_noted, append_text, list_noted, list_texts};
 pub use deed::{Deed, Deeds, Message};
 pub use deed_law::{deeds_compose, deeds_go_on, deeds_show};
 pub use desk::{Desk, Lane, begin_line};
-pub use desk_law::{desks_lead, desks_stay};
+pub use desk_law::{desks_lead, desks_stay, tellings_stay};
 pub use keeping::{KeptError, read_kept, write_kept};
 pub use kept::{Base, Kept, Key, Todo};
-pub use learner::{LearnError, Learner, Learnt};
+pub use learner::{Learner, Learnt};
 pub use memory::{MemoryKeeper, MemoryWork};
 pub use outside::{Keeper, Work, WorkError};
 pub use spelling::{kept_laws, parse_kept, push_kept};

@@ -1,4 +1,5 @@
 use Rattle.ms_local.proofs.DeskLaws.{deed_stays, work_stays, call_stays, read_stays, object_stays, state_stays, offer_stays}
+use Rattle.ms_local.proofs.FirstLane.{lanes_on, lanes_self}
 use Rattle.ms_local.proofs.desk_law.desks_stay.Goals as goal
 
 pub returns-clause-deed : goal.returns-clause-deed
@@ -21,3 +22,9 @@ returns-clause-state c = state_stays
 
 pub returns-clause-offer : goal.returns-clause-offer
 returns-clause-offer c = offer_stays
+
+pub returns-clause-lanes_self : goal.returns-clause-lanes_self
+returns-clause-lanes_self c = lanes_self
+
+pub returns-clause-lanes_on : goal.returns-clause-lanes_on
+returns-clause-lanes_on c = lanes_on
