@@ -35,6 +35,6 @@ none_taken lists services voters k e among none c =
 pub none_past : (lists : ℕ → List Record) (t : TallyView) (voters : List ℕ) (k : ℕ) (e : Entry) → IsTallyOf lists t → AreBelow t.services voters → 4294967295 ≤ k → ChosenBy lists voters k e → ⊥
 none_past lists t voters k e tally below past c =
     let o = one_took lists voters k e c in
-    let p = (tally.read o.service (below o.service o.votes)).positions o.place (Accept k c.ballot e) o.taken.stands in
+    let p = tally.positions o.service o.place (Accept k c.ballot e) (below o.service o.votes) o.taken.stands in
     let l = p.1 in
     omega arith

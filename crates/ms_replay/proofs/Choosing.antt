@@ -20,10 +20,12 @@ use Rattle.ms_replay.specs.declared.standing.Standing.{Standing}
 use Rattle.ms_replay.specs.declared.standing.Standing.TheVariants.{Unseen, Seen, Chosen, Split}
 use Rattle.ms_replay.specs.declared.voted.Voted.{Voted}
 use Rattle.ms_replay.specs.Standings.{IsNoLater, NoneTaken, IsGreatestVote, NoneChosen, IsFirstChosen, IsStanding}
-use Rattle.ms_replay.specs.Tallies.{TallyView, AreVotes, AreKnown, HasVote, IsTallyOf}
-use Rattle.ms_replay.specs.Winners.{IsPartAt, has_text, IsWinner, IsFirstWinner, IsGreatestHere, StandsBeside}
+use Rattle.ms_replay.specs.Places.{AreKept}
+use Rattle.ms_replay.specs.Tallies.{TallyView, AreVotes, AreKnown, HasVote, IsTallyOf, place_at}
+use Rattle.ms_replay.specs.Winners.{has_text, IsWinner, IsFirstWinner, IsGreatestHere, StandsBeside}
 use Rattle.ms_replay.proofs.Groups.{fixes, bytes_same, number_is, entries_order}
-use Rattle.ms_replay.proofs.Places.{any_at, at_any, and_true, bool_same, count_congr_in}
+use Rattle.ms_replay.proofs.PlacesKept.{kept_at}
+use Rattle.ms_replay.proofs.ListPlaces.{any_at, at_any, and_true, bool_same, count_congr_in}
 
 -- the voters are the services below n
 pub below_voter : (n s : ℕ) → s < n → Contains (services_below n) s
@@ -39,19 +41,15 @@ pub record ShowsAt (lists : ℕ → List Record) (n k : ℕ) (part : List Voted)
   pub taken : (i : ℕ) (v : Voted) (b : Ballot) (e : Entry) → slice_get part i ≡ Some v → record_at v.text ≡ Some (Accept k b e) → (p : ℕ) × IsTaken (lists v.service) p k b e
   pub kept : (s p : ℕ) (b : Ballot) (e : Entry) → s < n → IsTaken (lists s) p k b e → HasVote part s k b e
 
-pub shows_at : (lists : ℕ → List Record) (t : TallyView) (k : ℕ) (part : List Voted) → IsTallyOf lists t → AreVotes t.votes → AreKnown t.services t.votes → IsPartAt k t.votes part → ShowsAt lists t.services k part
-shows_at lists t k part tally are known at = record {
-  votes = λ i v g. are (at.from + i) v (at.places i v g);
-  known = λ i v g. known (at.from + i) v (at.places i v g);
-  taken = λ i v b e g reads.
-      let here = at.places i v g in
-      (tally.read v.service (known (at.from + i) v here)).taken k b e (record { place = at.from + i; vote = v; stands = here; service_is = refl; reads = reads });
-  kept = λ s p b e l taken.
-      let w = (tally.read s l).kept p k b e taken in
-      let f = fixes w.vote k b e (are w.place w.vote w.stands) w.reads in
-      let m = at.all w.place w.vote w.stands f.position in
-      record { place = m.0; vote = w.vote; stands = m.1; service_is = w.service_is; reads = w.reads };
-}
+pub shows_here : (lists : ℕ → List Record) (t : TallyView) (k : ℕ) (part : List Voted) → part ≡ (place_at t.places k).votes → IsTallyOf lists t → AreKept t → ShowsAt lists t.services k part
+shows_here lists t k part is tally kept =
+    let place = kept_at t k kept in
+    subst (ShowsAt lists t.services k) (sym is) (record {
+      votes = place.votes;
+      known = place.known;
+      taken = λ i v b e g reads. (tally.places v.service k (place.known i v g)).taken b e (record { place = i; vote = v; stands = g; service_is = refl; reads = reads });
+      kept = λ s p b e l taken. (tally.places s k l).kept p b e taken;
+    })
 
 text_is : (n k : ℕ) (lists : ℕ → List Record) (part : List Voted) (h : ShowsAt lists n k part) (i : ℕ) (v : Voted) (b : Ballot) (e : Entry) → slice_get part i ≡ Some v → record_at v.text ≡ Some (Accept k b e) → v.text ≡ record_text (Accept k b e)
 text_is n k lists part h i v b e g reads = (fixes v k b e (h.votes i v g) reads).spells

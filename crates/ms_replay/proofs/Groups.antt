@@ -25,7 +25,7 @@ use Rattle.ms_replay.specs.Tallies.{IsVote, vote_cmp}
 use Rattle.ms_replay.specs.Winners.{AreHere, IsGroup, has_voted, has_text, HasMajority, IsFirstWinner, IsGreatestHere}
 use Rattle.ms_record.specs.BallotOrder.{same_ballot}
 use Rattle.ms_replay.proofs.VoteOrder.{not_before}
-use Rattle.ms_replay.proofs.Places.{place_take, take_place, drop_place, any_at, at_any, bool_same, and_true, count_congr}
+use Rattle.ms_replay.proofs.ListPlaces.{place_take, take_place, drop_place, any_at, at_any, bool_same, and_true, count_congr}
 
 -- what a vote's text reads as
 pub record Fixes (v : Voted) (k : ℕ) (b : Ballot) (e : Entry) : Type 0 where

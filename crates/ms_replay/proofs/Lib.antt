@@ -1,10 +1,14 @@
-pub mod Places
+pub mod ListPlaces
 pub mod ReadingOn
 pub mod VoteOrder
-pub mod TallyOn
+pub mod PutIn
+pub mod PlaceOn
+pub mod Writing
+pub mod Sorting
+pub mod ListOn
 pub mod LookingOn
 pub mod Groups
-pub mod Parts
+pub mod PlacesKept
 pub mod Choosing
 pub mod Agreeing
 pub mod Linking

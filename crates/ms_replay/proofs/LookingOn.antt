@@ -21,7 +21,7 @@ use Rattle.ms_record.specs.Records.{IsBallot, IsRecord}
 use Rattle.ms_record.specs.Sights.{IsSight, ShowsPromise, ShowsTaken}
 use Rattle.ms_record.specs.Votes.{position_of, ballot_of, IsBest, IsPromised, IsTaken}
 use Rattle.ms_replay.specs.declared.looking.Look.{Look}
-use Rattle.ms_replay.proofs.Places.{alone, place_cases}
+use Rattle.ms_replay.proofs.ListPlaces.{alone, place_cases}
 use Rattle.ms_replay.proofs.ReadingOn.{votes_more}
 use Rattle.ms_replay.specs.Looks.{HasShown, IsInRange, IsOfBid, after_verdict, with_promise}
 

@@ -2,6 +2,7 @@ pub use Rattle.ms_base.specs.Outside
 pub mod Dumps
 pub mod DumpLines
 pub mod Tallies
+pub mod Places
 pub mod TallyInside
 pub mod Standings
 pub mod Winners

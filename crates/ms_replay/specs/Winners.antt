@@ -15,13 +15,6 @@ use Rattle.ms_replay.specs.declared.standing.Standing.TheVariants.{Chosen, Split
 use Rattle.ms_replay.specs.Standings.{Differs, IsNoLater}
 use Rattle.ms_replay.specs.Tallies.{IsVote, vote_cmp}
 
--- the votes of one position, which stand next to each other
-pub record IsPartAt (position : ℕ) (votes part : List Voted) : Type 0 where
-  pub from : ℕ
-  pub places : (i : ℕ) (v : Voted) → slice_get part i ≡ Some v → slice_get votes (from + i) ≡ Some v
-  pub here : (i : ℕ) (v : Voted) → slice_get part i ≡ Some v → v.position ≡ position
-  pub all : (i : ℕ) (v : Voted) → slice_get votes i ≡ Some v → v.position ≡ position → (j : ℕ) × (slice_get part j ≡ Some v)
-
 -- votes of one position, in order
 pub record AreHere (position : ℕ) (part : List Voted) : Type 0 where
   pub votes : (i : ℕ) (v : Voted) → slice_get part i ≡ Some v → IsVote v

@@ -5,8 +5,11 @@ pub mod audit;
 pub mod dump;
 pub mod law;
 pub mod looking;
+mod place;
+mod places;
 mod standing;
 mod tally;
+mod undo;
 mod voted;
 
 pub use audit::{Audit, audit_dump};

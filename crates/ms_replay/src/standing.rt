@@ -4,9 +4,8 @@ ghost use Rattle.std.specs.Prelude.{◌≡◌, ◌≢◌, ◌⊎◌, ℕ, ◌+�
 ghost use Rattle.ms_record.specs.declared.ballot.Ballot.{Ballot};
 ghost use Rattle.ms_record.specs.declared.entry.Entry.{Entry};
 ghost use Rattle.ms_replay.specs.declared.voted.Voted.{Voted};
-ghost use Rattle.ms_replay.specs.Tallies.{AreSorted};
 ghost use Rattle.ms_replay.specs.Standings.{Differs, IsGiven};
-ghost use Rattle.ms_replay.specs.Winners.{IsPartAt, AreHere, IsGroup, IsWinner, IsFirstWinner, IsGreatestHere, has_voted};
+ghost use Rattle.ms_replay.specs.Winners.{AreHere, IsGroup, IsWinner, IsFirstWinner, IsGreatestHere, has_voted};
 
 use crate::voted::Voted;
 use ms_record::{Ballot, Entry, ServiceSet, Vote};
@@ -22,17 +21,6 @@ pub enum Standing {
     Chosen { entry: Entry },
     /// More are chosen: the one of least ballot, then least bytes, and the next that differs.
     Split { first: Entry, second: Entry },
-}
-
-/// The votes of a position.
-pub fn votes_at(votes: &[Voted], position: u32) -> &[Voted]
-    requires { AreSorted votes.now }
-    ensures { IsPartAt position votes.now result.now }
-{
-    let from = votes.partition_point(|v| v.position < position);
-    let rest = &votes[from..];
-    let count = rest.partition_point(|v| v.position <= position);
-    &rest[..count]
 }
 
 /// Where the votes of this text end.

@@ -2,27 +2,26 @@
 
 ghost use Rattle.std.specs.Prelude.{◌≡◌, ◌≤◌, ◌<◌, ℕ, List, [], Contains, IfOk, OnOk, OnErr, length};
 ghost use Rattle.ms_record.specs.declared.record.Record.{Record};
-ghost use Rattle.ms_record.specs.Reading.{votes_of};
+ghost use Rattle.ms_record.specs.Reading.{record_at, votes_of, with_record};
 ghost use Rattle.ms_record.specs.Votes.{services_below};
 ghost use Rattle.ms_replay.specs.Standings.{IsStanding};
 ghost use Rattle.ms_replay.specs.Winners.{AreHere, StandsBeside};
 
-use crate::standing::{Standing, first_chosen, greatest_vote, votes_at};
-use crate::voted::{Voted, read_list, sort_votes};
+use crate::place::Filing;
+use crate::places::{Places, voted_at};
+use crate::standing::{Standing, first_chosen, greatest_vote};
+use crate::voted::Voted;
 use ms_base::{Bytes, Items, NoMemory, ServiceId};
-use ms_record::{Ballot, Entry, ServiceSet};
+use ms_record::{Entry, ServiceSet};
 use std::alloc::Global;
-use std::collections::BTreeMap;
 use std::marker::Model;
 
-/// What the vote lists of some services show: the greatest ballots, and the votes that were taken.
+/// What the vote lists of some services show, by the positions.
 #[derive(Drop)]
 pub struct Tally {
-    services: u32,
-    /// Of each service, the greatest ballot at each position.
-    tops: Vec<BTreeMap<u32, Ballot>>,
-    /// In order.
-    votes: Vec<Voted>,
+    alloc: Global,
+    /// Their votes are in order.
+    places: Places,
 }
 
 impl Model for Tally {
@@ -38,7 +37,7 @@ impl Model for Tally {
 }
 
 impl Tally {
-    ghost use Rattle.ms_replay.specs.Tallies.{IsTallyOf, goes_on};
+    ghost use Rattle.ms_replay.specs.Tallies.{IsTallyOf, IsVotedAt, goes_on};
     ghost use Rattle.ms_replay.specs.Audits.{lists_of};
 
     /// The tally of so many services, of whose lists nothing was read.
@@ -46,14 +45,9 @@ impl Tally {
         ensures services { IfOk result (λ t. t.services ≡ services) }
         ensures start { IfOk result (IsTallyOf (λ s. [])) }
     {
-        let mut tops = Vec::new(alloc);
-        for _ in 0..services {
-            tops.push(BTreeMap::new(alloc))?;
-        }
         Ok(Tally {
-            services,
-            tops,
-            votes: Vec::new(alloc),
+            alloc,
+            places: Places::new(alloc, services),
         })
     }
 
@@ -63,34 +57,38 @@ impl Tally {
         ensures services { IfOk result (λ t. t.services ≡ services) }
         ensures read { IfOk result (IsTallyOf (lists_of lists.now)) }
     {
-        let mut tops = Vec::new(alloc);
-        let mut votes = Vec::new(alloc);
+        let mut places = Places::new(alloc, services);
         for service in 0..services {
-            let mut own = BTreeMap::new(alloc);
-            read_list(
-                &mut own,
-                &mut votes,
-                service,
-                lists[service as usize].as_slice(),
-            )?;
-            tops.push(own)?;
+            places.put_behind(service, lists[service as usize].as_slice())?;
         }
-        sort_votes(&mut votes);
-        Ok(Tally {
-            services,
-            tops,
-            votes,
-        })
+        places.sort();
+        Ok(Tally { alloc, places })
     }
 
     /// How many services there are.
     pub fn services(&self) -> u32
         ensures { result ≡ self.now.services }
     {
-        self.services
+        self.places.services()
     }
 
-    /// The list of that service goes on by these texts.
+    /// The list of that service goes on by a text; one that is no record is skipped. Answers the position at which an
+    /// Accept was taken by it, if one was. Refused, it changes nothing.
+    pub fn add(&mut self, service: ServiceId, text: &[u8]) -> Result<Option<u32>, NoMemory>
+        requires { service.0 < self.old.services }
+        // What has read these lists has then read those, with the record of the text behind this one.
+        ensures ok { (lists : ℕ → List Record) → IsTallyOf lists self.old
+            → OnOk result (IsTallyOf (goes_on lists service.0 (with_record (record_at text.now) [])) self.new) }
+        ensures voted { (lists : ℕ → List Record) → IsTallyOf lists self.old
+            → IfOk result (IsVotedAt (lists service.0) (record_at text.now)) }
+        ensures services { self.new.services ≡ self.old.services }
+        ensures err { OnErr result (self.new ≡ self.old) }
+    {
+        let put = self.places.put(service.0, text, Filing::InOrder)?;
+        Ok(voted_at(&put))
+    }
+
+    /// The list of that service goes on by these texts. Refused, it changes nothing.
     pub fn add_list(&mut self, service: ServiceId, more: &[Bytes]) -> Result<(), NoMemory>
         requires { service.0 < self.old.services }
         // What has read these lists has then read those, with more of this one.
@@ -98,19 +96,12 @@ impl Tally {
         ensures services { self.new.services ≡ self.old.services }
         ensures err { OnErr result (self.new ≡ self.old) }
     {
-        let mut tops = copy_tops(&self.tops[service.0 as usize])?;
-        let count = self.votes.len();
-        match read_list(&mut tops, &mut self.votes, service.0, more) {
-            Ok(()) => {
-                self.tops[service.0 as usize] = tops;
-                sort_votes(&mut self.votes);
-                Ok(())
-            }
-            Err(error) => {
-                self.votes.truncate(count);
-                Err(error)
-            }
+        let mut done = Vec::with_capacity(self.alloc, more.len())?;
+        if self.places.put_all(service.0, more, &mut done).is_err() {
+            self.places.take_all_back(service.0, done);
+            return Err(NoMemory);
         }
+        Ok(())
     }
 
     /// What the lists that were read show at the position, where these services vote there.
@@ -119,7 +110,7 @@ impl Tally {
         requires known { (s : ℕ) → Contains voters.now s → s < self.now.services }
         ensures { (lists : ℕ → List Record) → IsTallyOf lists self.now → IsStanding lists (services_below self.now.services) voters.now position result }
     {
-        let here = votes_at(&self.votes, position);
+        let here = self.places.votes_at(position);
         match first_chosen(here, voters, position, &None) {
             Some(first) => chosen_beside(here, voters, position, &first),
             None => match greatest_vote(here, position) {
@@ -143,12 +134,4 @@ fn chosen_beside(here: &[Voted], voters: &ServiceSet, position: u32, first: &Ent
         },
         None => Standing::Chosen { entry: *first },
     }
-}
-
-/// The same greatest ballots.
-fn copy_tops(tops: &BTreeMap<u32, Ballot>) -> Result<BTreeMap<u32, Ballot>, NoMemory>
-    ensures { IfOk result (λ m. m.entries ≡ tops.now.entries) }
-{
-    let copy = tops.clone()?;
-    Ok(copy)
 }
