@@ -36,9 +36,9 @@ use Rattle.ms_world.specs.Steps.{IsEvent, IsRun, Step, Steps}
 use Rattle.ms_world.specs.Worlds.{WorldView, start_world, votes_of_world}
 use Rattle.ms_top.specs.Alike.{AreAlike, HashesCollision, IsJudged}
 use Rattle.ms_top.specs.Answers.{Answers, ByCommand}
-use Rattle.ms_top.specs.Audits.{DumpSays, spelled_dump, told_audit}
-use Rattle.ms_top.specs.Drills.{IsInRange, RunSays, RunsWhole, StopsAt, known_of}
-use Rattle.ms_top.specs.Hashes.{FilesSay, HashIs, IsTooLarge}
+use Rattle.ms_top.specs.Audits.{DumpSays, MayLackDump, spelled_dump, told_audit}
+use Rattle.ms_top.specs.Drills.{IsInRange, MayLackDrill, RunSays, RunsWhole, StopsAt, known_of}
+use Rattle.ms_top.specs.Hashes.{FilesSay, HashIs, IsTooLarge, MayLackListing}
 use Rattle.ms_top.specs.Inputs.{InputGives, OnInput, TextSays}
 use Rattle.ms_top.specs.Runs.{Runs}
 use Rattle.ms_top.specs.Steps.{OfValue}
@@ -226,7 +226,7 @@ Judged result = IsJudged (status_of (report_of result))
 judged_as : (r s : Result Report Refusal) → r ≡ s → Judged r → Judged s
 judged_as r s e h = subst Judged e h
 
-module _ {A : Type 0} (C : Type 0) (spelled : List ℕ → Result A Refusal) (Says : A → Result Report Refusal → Type 0) (old : OutsideView) (texts : List (List ℕ × List ℕ)) (told : old.inputs.texts ≡ Some texts)
+module _ {A : Type 0} (C : Type 0) (spelled : List ℕ → Result A Refusal) (Says : A → Result Report Refusal → Type 0) (MayLack : List ℕ → Type 0) (old : OutsideView) (texts : List (List ℕ × List ℕ)) (told : old.inputs.texts ≡ Some texts)
     (file : List ℕ) (one : (text : List ℕ) (x : A) (r s : Result Report Refusal) → HasText old.inputs file text → spelled text ≡ Ok x → Says x r → Says x s → (r ≡ s) ⊎ C) where
   found : (text : List ℕ) → HasText old.inputs file text → text_named texts file ≡ Some text
   found text h = subst (λ (o : Option (List (List ℕ × List ℕ))). IfSome o (λ ts. text_named ts file ≡ Some text)) told h
@@ -253,9 +253,9 @@ module _ {A : Type 0} (C : Type 0) (spelled : List ℕ → Result A Refusal) (Sa
   refused_long mid refusal judged (inr (inl h)) = record { is = h.0; long = h.1 }
   refused_long mid refusal judged (inr (inr h)) = absurd (judged.memory (ap (λ (f : Refusal). status_of (reports.Refused f)) h.0))
 
-  value_alike : (text : List ℕ) (r s : Result Report Refusal) → HasText old.inputs file text → Judged r → Judged s → TextSays spelled Says text r → TextSays spelled Says text s → (r ≡ s) ⊎ C
-  value_alike text r s h jr js (inl e) b = absurd (jr.memory (ap (λ (x : Result Report Refusal). status_of (report_of x)) e))
-  value_alike text r s h jr js a (inl e) = absurd (js.memory (ap (λ (x : Result Report Refusal). status_of (report_of x)) e))
+  value_alike : (text : List ℕ) (r s : Result Report Refusal) → HasText old.inputs file text → Judged r → Judged s → TextSays spelled Says MayLack text r → TextSays spelled Says MayLack text s → (r ≡ s) ⊎ C
+  value_alike text r s h jr js (inl e) b = absurd (jr.memory (ap (λ (x : Result Report Refusal). status_of (report_of x)) e.0))
+  value_alike text r s h jr js a (inl e) = absurd (js.memory (ap (λ (x : Result Report Refusal). status_of (report_of x)) e.0))
   value_alike text r s h jr js (inr (inl (f, spells, e))) (inr (inl (g, also, k))) =
       inl (e ∙ ap refused (err_one f g (spelled text) spells also) ∙ sym k)
   value_alike text r s h jr js (inr (inl (f, spells, e))) (inr (inr (x, also, says))) = not_both x f (spelled text) also spells
@@ -263,7 +263,7 @@ module _ {A : Type 0} (C : Type 0) (spelled : List ℕ → Result A Refusal) (Sa
   value_alike text r s h jr js (inr (inr (x, spells, says))) (inr (inr (y, also, too))) =
       one text x r s h spells says (subst (λ (z : A). Says z s) (ok_one y x (spelled text) also spells) too)
 
-  input_alike : (new other : OutsideView) (r s : Result Report Refusal) → Judged r → Judged s → OnInput (TextSays spelled Says) file old new r → OnInput (TextSays spelled Says) file old other s → (r ≡ s) ⊎ C
+  input_alike : (new other : OutsideView) (r s : Result Report Refusal) → Judged r → Judged s → OnInput (TextSays spelled Says MayLack) file old new r → OnInput (TextSays spelled Says MayLack) file old other s → (r ≡ s) ⊎ C
   input_alike new other r s jr js (inl (f, reads, e)) (inl (g, also, k)) =
       let a = refused_long new.inputs f (judged_as r (Err f) e jr) reads.gives in
       let b = refused_long other.inputs g (judged_as s (Err g) k js) also.gives in
@@ -274,7 +274,7 @@ module _ {A : Type 0} (C : Type 0) (spelled : List ℕ → Result A Refusal) (Sa
       absurd (long_or_short text (refused_long other.inputs g (judged_as s (Err g) k js) also.gives).long reads.gives.text_of reads.gives.short)
   input_alike new other r s jr js (inr (text, mid, reads, (same, says))) (inr (words, there, also, (equal, too))) =
       let one_text = text_one words text also.gives.text_of reads.gives.text_of in
-      value_alike text r s reads.gives.text_of jr js says (subst (λ (t : List ℕ). TextSays spelled Says t s) one_text too)
+      value_alike text r s reads.gives.text_of jr js says (subst (λ (t : List ℕ). TextSays spelled Says MayLack t s) one_text too)
 
 -- ---- the answer of a command
 
@@ -287,11 +287,11 @@ module _ (one_audit : (dump : Dump) (a b : AuditOf) → IsAudit dump a → IsAud
       → (r ≡ s) ⊎ HashesCollision command old.inputs
   command_alike None new other r s q jr js a b = inl (a.1 ∙ sym b.1)
   command_alike (Some (Audit file)) new other r s q jr js a b =
-      input_alike (HashesCollision command old.inputs) spelled_dump DumpSays old texts told file (λ text x r s h spells says too. inl (dump_alike x r s says too)) new other r s jr js a b
+      input_alike (HashesCollision command old.inputs) spelled_dump DumpSays MayLackDump old texts told file (λ text x r s h spells says too. inl (dump_alike x r s says too)) new other r s jr js a b
   command_alike (Some (Drill file)) new other r s q jr js a b =
-      input_alike (HashesCollision command old.inputs) drill_at RunSays old texts told file (λ text x r s h spells says too. inl (drill_alike laws x r s says too)) new other r s jr js a b
+      input_alike (HashesCollision command old.inputs) drill_at RunSays MayLackDrill old texts told file (λ text x r s h spells says too. inl (drill_alike laws x r s says too)) new other r s jr js a b
   command_alike (Some (Hash file)) new other r s q jr js a b =
-      input_alike (HashesCollision command old.inputs) listing_at FilesSay old texts told file
+      input_alike (HashesCollision command old.inputs) listing_at FilesSay MayLackListing old texts told file
       (λ text x r s h spells says too. elim (files_alike x r s says too) [
         | inl e ↦ inl e
         | inr c ↦ inr (record { file = file; is = q; text = text; text_of = h; files = x; spells = spells; collide = c })

@@ -1,6 +1,6 @@
 -- Each answer has its cause.
-use Rattle.std.proofs.Common.{◌≡◌, ℕ, List, Option, Some, None, IsSome, Result, Err, inl, inr, refl, sym, ap, subst}
-use Rattle.ms_base.specs.Outside.{OutsideView}
+use Rattle.std.proofs.Common.{◌≡◌, ℕ, List, Option, Some, None, IsSome, Result, Ok, Err, inl, inr, refl, sym, ap, subst}
+use Rattle.ms_base.specs.Outside.{OutsideView, HasText}
 use Rattle.ms_drill.specs.Drills.{drill_at}
 use Rattle.ms_record.specs.declared.refusal.Refusal.{Refusal}
 use Rattle.ms_replay.specs.declared.audit.Audit.{Audit as Audit_}
@@ -11,10 +11,10 @@ use Rattle.ms_words.specs.declared.command.Command.TheVariants.{Audit, Drill, Ha
 use Rattle.ms_words.specs.declared.report.Report.{Report}
 use Rattle.ms_words.specs.declared.report.Report.TheVariants as reports
 use Rattle.ms_top.specs.Answers.{Answers, ByCommand}
-use Rattle.ms_top.specs.Audits.{DumpSays, spelled_dump, told_audit}
-use Rattle.ms_top.specs.Causes.{CauseOf, FaultOf, LongInput, HasFault, HasAnswer, HasLongInput, Audited, Drilled, Hashed}
-use Rattle.ms_top.specs.Drills.{RunSays}
-use Rattle.ms_top.specs.Hashes.{FilesSay}
+use Rattle.ms_top.specs.Audits.{DumpSays, MayLackDump, spelled_dump, told_audit}
+use Rattle.ms_top.specs.Causes.{CauseOf, FaultOf, HasFault, Audited, Drilled, Hashed, file_of}
+use Rattle.ms_top.specs.Drills.{MayLackDrill, RunSays}
+use Rattle.ms_top.specs.Hashes.{FilesSay, MayLackListing}
 use Rattle.ms_top.specs.Inputs.{InputGives, OnInput, TextSays}
 use Rattle.ms_top.specs.Telling.{NeedsMemory, report_of}
 use Rattle.ms_top.proofs.TextFaults.{IsTextFault, dump_is, drill_is, listing_is}
@@ -29,28 +29,25 @@ module _ (command : Option Command) (old : OutsideView) where
   by_refusal : (new : OutsideView) (refusal other : Refusal) → refusal ≡ other → CauseOf command old new (reports.Refused other) → CauseOf command old new (reports.Refused refusal)
   by_refusal new refusal other e h = subst (λ (r : Refusal). CauseOf command old new (reports.Refused r)) (sym e) h
 
-  input_cause : (command_on : List ℕ → Command) (file : List ℕ) (new : OutsideView) (refusal : Refusal) → command ≡ Some (command_on file) → (HasLongInput command_on command old → LongInput command old)
-      → InputGives file old.inputs new.inputs (Err refusal) → CauseOf command old new (reports.Refused refusal)
-  input_cause command_on file new refusal q long (inl h) = by_refusal new refusal _ h.0 (refl, is_some_of command (command_on file) q, h.1)
-  input_cause command_on file new refusal q long (inr (inl h)) = by_refusal new refusal _ h.0 (inl (refl, refl, long (record { file = file; is = q; long = h.1 })))
-  input_cause command_on file new refusal q long (inr (inr h)) = by_refusal new refusal _ h.0 (is_some_of command (command_on file) q)
+  input_cause : (asked : Command) (new : OutsideView) (refusal : Refusal) → command ≡ Some asked → InputGives (file_of asked) old.inputs new.inputs (Err refusal) → CauseOf command old new (reports.Refused refusal)
+  input_cause asked new refusal q (inl h) = by_refusal new refusal _ h.0 (refl, is_some_of command asked q, h.1)
+  input_cause asked new refusal q (inr (inl h)) = by_refusal new refusal _ h.0 (inl (refl, refl, record { asked = asked; is = q; long = h.1 }))
+  input_cause asked new refusal q (inr (inr h)) = by_refusal new refusal _ h.0 (is_some_of command asked q)
 
   fault_cause : (new : OutsideView) (fault : Refusal) → FaultOf command old fault → IsTextFault fault → CauseOf command old new (reports.Refused fault)
   fault_cause new fault of (inl h) = by_refusal new fault _ h.1 (refl, subst (λ (f : Refusal). FaultOf command old f) h.1 of)
   fault_cause new fault of (inr h) = by_refusal new fault _ h.2 (inr (inl (subst (λ (f : Refusal). FaultOf command old f) h.2 of)))
 
-  module _ {A : Type 0} (command_on : List ℕ → Command) (spelled : List ℕ → Result A Refusal) (Says : A → Result Report Refusal → Type 0)
-      (long : HasLongInput command_on command old → LongInput command old) (into : (fault : Refusal) → HasFault command_on spelled command old fault → FaultOf command old fault)
-      (faults : (text : List ℕ) (fault : Refusal) → spelled text ≡ Err fault → IsTextFault fault) where
-    input_has_cause : (file : List ℕ) (new : OutsideView) (result : Result Report Refusal) → command ≡ Some (command_on file)
-        → (HasAnswer command_on spelled Says command old result → CauseOf command old new (report_of result))
-        → OnInput (TextSays spelled Says) file old new result → CauseOf command old new (report_of result)
-    input_has_cause file new result q answered (inl h) = moved new result _ h.2 (input_cause command_on file new h.0 q long h.1.gives)
-    input_has_cause file new result q answered (inr (text, mid, reads, (same, inl e))) = moved new result _ e (is_some_of command (command_on file) q)
-    input_has_cause file new result q answered (inr (text, mid, reads, (same, inr (inl f)))) =
-        moved new result _ f.2 (fault_cause new f.0 (into f.0 (record { file = file; is = q; text = text; text_of = reads.gives.text_of; fault_is = f.1 })) (faults text f.0 f.1))
-    input_has_cause file new result q answered (inr (text, mid, reads, (same, inr (inr a)))) =
-        answered (record { file = file; is = q; text = text; text_of = reads.gives.text_of; value = a.0; spells = a.1; says = a.2 })
+  module _ {A : Type 0} (asked : Command) (spelled : List ℕ → Result A Refusal) (Says : A → Result Report Refusal → Type 0) (MayLack : List ℕ → Type 0)
+      (into : (text : List ℕ) (fault : Refusal) → spelled text ≡ Err fault → HasFault asked text fault) (faults : (text : List ℕ) (fault : Refusal) → spelled text ≡ Err fault → IsTextFault fault) where
+    input_has_cause : (new : OutsideView) (result : Result Report Refusal) → command ≡ Some asked
+        → ((text : List ℕ) (value : A) → HasText old.inputs (file_of asked) text → spelled text ≡ Ok value → Says value result → CauseOf command old new (report_of result))
+        → OnInput (TextSays spelled Says MayLack) (file_of asked) old new result → CauseOf command old new (report_of result)
+    input_has_cause new result q answered (inl h) = moved new result _ h.2 (input_cause asked new h.0 q h.1.gives)
+    input_has_cause new result q answered (inr (text, mid, reads, (same, inl e))) = moved new result _ e.0 (is_some_of command asked q)
+    input_has_cause new result q answered (inr (text, mid, reads, (same, inr (inl f)))) =
+        moved new result _ f.2 (fault_cause new f.0 (record { asked = asked; is = q; text = text; text_of = reads.gives.text_of; fault_is = into text f.0 f.1 }) (faults text f.0 f.1))
+    input_has_cause new result q answered (inr (text, mid, reads, (same, inr (inr a)))) = answered text a.0 reads.gives.text_of a.1 a.2
 
   audit_cause : (new : OutsideView) (result : Result Report Refusal) → Audited command old result → CauseOf command old new (report_of result)
   audit_cause new result h = by h.says.0 h.says.2
@@ -75,13 +72,19 @@ module _ (command : Option Command) (old : OutsideView) where
 
   command_cause : (asked : Option Command) (new : OutsideView) (result : Result Report Refusal) → command ≡ asked → ByCommand asked old new result → CauseOf command old new (report_of result)
   command_cause None new result q h = moved new result _ h.1 q
-  command_cause (Some (Audit file)) new result q h = input_has_cause Audit spelled_dump DumpSays (λ l. inl l) (λ f x. inl x) dump_is file new result q (audit_cause new result) h
-  command_cause (Some (Drill file)) new result q h = input_has_cause Drill drill_at RunSays (λ l. inr (inl l)) (λ f x. inr (inl x)) drill_is file new result q (drill_cause new result) h
-  command_cause (Some (Hash file)) new result q h = input_has_cause Hash listing_at FilesSay (λ l. inr (inr l)) (λ f x. inr (inr x)) listing_is file new result q (hash_cause new result) h
+  command_cause (Some (Audit file)) new result q h =
+      input_has_cause (Audit file) spelled_dump DumpSays MayLackDump (λ text f e. e) dump_is new result q
+      (λ text value at spells says. audit_cause new result (record { file = file; is = q; text = text; text_of = at; value = value; spells = spells; says = says })) h
+  command_cause (Some (Drill file)) new result q h =
+      input_has_cause (Drill file) drill_at RunSays MayLackDrill (λ text f e. e) drill_is new result q
+      (λ text value at spells says. drill_cause new result (record { file = file; is = q; text = text; text_of = at; value = value; spells = spells; says = says })) h
+  command_cause (Some (Hash file)) new result q h =
+      input_has_cause (Hash file) listing_at FilesSay MayLackListing (λ text f e. e) listing_is new result q
+      (λ text value at spells says. hash_cause new result (record { file = file; is = q; text = text; text_of = at; value = value; spells = spells; says = says })) h
 
   -- an answer that needs memory to be told is that of a command
   is_asked : (asked : Option Command) (new : OutsideView) (answer : Result Report Refusal) → ByCommand asked old new answer → NeedsMemory (report_of answer) → IsSome asked
-  is_asked None new answer h needs = absurd (needs.words (ap (λ (r : Result Report Refusal). report_of r) h.1))
+  is_asked None new answer h needs = absurd (subst (λ (r : Result Report Refusal). NeedsMemory (report_of r)) h.1 needs)
   is_asked (Some asked) new answer h needs = refl
 
   pub cause_of : (new : OutsideView) (result : Result Report Refusal) → Answers command old new result → CauseOf command old new (report_of result)

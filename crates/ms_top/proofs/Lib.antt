@@ -1,7 +1,6 @@
 mod Running
 mod TextFaults
 mod CauseLaws
-pub mod FixedLines
 mod RunLaws
 mod Together
 mod Alike

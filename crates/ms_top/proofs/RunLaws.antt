@@ -18,7 +18,7 @@ use Rattle.ms_top.specs.Hashes.{HashSays}
 use Rattle.ms_top.specs.Inputs.{InputGives, OnInput}
 use Rattle.ms_top.specs.Runs.{Runs}
 use Rattle.ms_top.specs.Steps.{Then}
-use Rattle.ms_top.specs.Telling.{GoesOn, SinkGoesOn, Tells, TellsOrNoMemory, report_of}
+use Rattle.ms_top.specs.Telling.{GoesOn, NeedsMemory, SinkGoesOn, Tells, TellsOrNoMemory, report_of}
 use Rattle.ms_top.specs.Verbs.{VerbSays}
 use Rattle.ms_words.specs.Commands.{command_with}
 use Rattle.ms_words.specs.declared.command.Verb.{Verb}
@@ -106,7 +106,7 @@ IsFault result = result ≡ Err (refusals.OutsideFault places.Input)
 refused_rises : (file : List ℕ) (old new : InputsView) (refusal : Refusal) → InputGives file old new (Err refusal) → old.faults < new.faults → IsFault (Err refusal)
 refused_rises file old new refusal (inl h) rises = ap (λ (r : Refusal). Err r) h.0
 refused_rises file old new refusal (inr (inl h)) rises = let same = h.2 in absurd (omega (arith, same, rises))
-refused_rises file old new refusal (inr (inr h)) rises = let same = h.1 in absurd (omega (arith, same, rises))
+refused_rises file old new refusal (inr (inr h)) rises = let same = h.2 in absurd (omega (arith, same, rises))
 
 -- the count of the inputs rises with a fault alone
 input_rises : (Says : List ℕ → Result Report Refusal → Type 0) (file : List ℕ) (old new : OutsideView) (result : Result Report Refusal) → OnInput Says file old new result
@@ -178,7 +178,7 @@ module _ (command : Option Command) (old new : OutsideView) where
   runs result before after status reads goes_on rises carries (inl tells) sink = told result before after status reads goes_on rises (inr carries) tells sink
   runs result before after status reads goes_on rises carries (inr tells) sink =
       told (Err refusals.NoMemory) before after status (untold command old new result reads) goes_on
-      (λ r. absurd (tells.0.input (ap (λ (x : Result Report Refusal). report_of x) (rises r)))) (by carries) tells.1 sink
+      (λ r. absurd (subst (λ (x : Result Report Refusal). NeedsMemory (report_of x)) (rises r) tells.0)) (by carries) tells.1 sink
     where
       by : Carries command old new result → Answers command old new (Err refusals.NoMemory)
       by (inl h) = inr (inl (h.0, refl, h.2))

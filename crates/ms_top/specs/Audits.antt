@@ -1,5 +1,5 @@
 -- What the command `audit` answers: the chain that a dump shows, or its split, or the first wrong line.
-use Rattle.std.specs.Prelude.{◌≡◌, ℕ, List, Result, Ok, Err}
+use Rattle.std.specs.Prelude.{◌≡◌, ◌≢◌, ℕ, List, Result, Ok, Err}
 use Rattle.ms_record.specs.declared.refusal.Place.TheVariants as places
 use Rattle.ms_record.specs.declared.refusal.Refusal.{Refusal}
 use Rattle.ms_record.specs.declared.refusal.Refusal.TheVariants as refusals
@@ -28,6 +28,10 @@ told_audit dump (audits.Split position first second) = Err (refusals.Split posit
 abbrev pub DumpSays : Dump → Result Report Refusal → Type 0
 DumpSays dump result = (audit : Audit) × IsAudit dump audit × (result ≡ told_audit dump audit)
 
+-- memory may run out for a dump whose head is right
+abbrev pub MayLackDump : List ℕ → Type 0
+MayLackDump text = dump_at text ≢ Err 1
+
 -- what the text of a dump is answered with
 abbrev pub AuditSays : List ℕ → Result Report Refusal → Type 0
-AuditSays = TextSays spelled_dump DumpSays
+AuditSays = TextSays spelled_dump DumpSays MayLackDump

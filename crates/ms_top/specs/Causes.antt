@@ -19,13 +19,31 @@ use Rattle.ms_top.specs.Audits.{DumpSays, spelled_dump}
 use Rattle.ms_top.specs.Drills.{RunSays}
 use Rattle.ms_top.specs.Hashes.{FilesSay}
 
--- the input of that command has a text with this fault, and no earlier one
-pub record HasFault {A : Type 0} (command_on : List ℕ → Command) (spelled : List ℕ → Result A Refusal) (command : Option Command) (old : OutsideView) (fault : Refusal) : Type 0 where
-  pub file : List ℕ
-  pub is : command ≡ Some (command_on file)
+-- the name of a command's input
+abbrev pub file_of : Command → List ℕ
+file_of (Audit file) = file
+file_of (Drill file) = file
+file_of (Hash file) = file
+
+-- a text that the command reads has this fault, and no earlier one
+abbrev pub HasFault : Command → List ℕ → Refusal → Type 0
+HasFault (Audit file) text fault = spelled_dump text ≡ Err fault
+HasFault (Drill file) text fault = drill_at text ≡ Err fault
+HasFault (Hash file) text fault = listing_at text ≡ Err fault
+
+-- the input of the command that is asked for has this fault
+pub record FaultOf (command : Option Command) (old : OutsideView) (fault : Refusal) : Type 0 where
+  pub asked : Command
+  pub is : command ≡ Some asked
   pub text : List ℕ
-  pub text_of : HasText old.inputs file text
-  pub fault_is : spelled text ≡ Err fault
+  pub text_of : HasText old.inputs (file_of asked) text
+  pub fault_is : HasFault asked text fault
+
+-- the input of the command that is asked for is longer than it may be
+pub record LongInput (command : Option Command) (old : OutsideView) : Type 0 where
+  pub asked : Command
+  pub is : command ≡ Some asked
+  pub long : HasLongText old.inputs (file_of asked) INPUT_BYTES
 
 -- the input of that command has a text that spells a value, of which this is the answer
 pub record HasAnswer {A : Type 0} (command_on : List ℕ → Command) (spelled : List ℕ → Result A Refusal) (Says : A → Result Report Refusal → Type 0) (command : Option Command) (old : OutsideView) (result : Result Report Refusal) : Type 0 where
@@ -37,12 +55,6 @@ pub record HasAnswer {A : Type 0} (command_on : List ℕ → Command) (spelled :
   pub spells : spelled text ≡ Ok value
   pub says : Says value result
 
--- the input of that command is longer than it may be
-pub record HasLongInput (command_on : List ℕ → Command) (command : Option Command) (old : OutsideView) : Type 0 where
-  pub file : List ℕ
-  pub is : command ≡ Some (command_on file)
-  pub long : HasLongText old.inputs file INPUT_BYTES
-
 abbrev pub Audited : Option Command → OutsideView → Result Report Refusal → Type 0
 Audited = HasAnswer Audit spelled_dump DumpSays
 
@@ -51,14 +63,6 @@ Drilled = HasAnswer Drill drill_at RunSays
 
 abbrev pub Hashed : Option Command → OutsideView → Result Report Refusal → Type 0
 Hashed = HasAnswer Hash listing_at FilesSay
-
--- the dump, the schedule or the listing has this fault
-abbrev pub FaultOf : Option Command → OutsideView → Refusal → Type 0
-FaultOf command old fault = HasFault Audit spelled_dump command old fault ⊎ (HasFault Drill drill_at command old fault ⊎ HasFault Hash listing_at command old fault)
-
--- the input is longer than it may be
-abbrev pub LongInput : Option Command → OutsideView → Type 0
-LongInput command old = HasLongInput Audit command old ⊎ (HasLongInput Drill command old ⊎ HasLongInput Hash command old)
 
 abbrev pub CauseOf : Option Command → OutsideView → OutsideView → Report → Type 0
 CauseOf command old new (reports.Audit genesis entries) = Audited command old (Ok (reports.Audit genesis entries))

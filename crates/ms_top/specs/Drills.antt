@@ -1,6 +1,6 @@
 -- What the command `drill` answers: the chain of the logs that a run leaves and what each client knows, or the event that
 -- can't happen, or what is wrong with the text.
-use Rattle.std.specs.Prelude.{◌≡◌, ◌⊎◌, ℕ, ◌+◌, All, List, ◌∷◌, ◌++◌, length, map, slice_get, Some, Result, Ok, Err}
+use Rattle.std.specs.Prelude.{◌≡◌, ◌≢◌, ◌⊎◌, ℕ, ◌+◌, All, List, ◌∷◌, ◌++◌, length, map, slice_get, Some, Result, Ok, Err}
 use Rattle.ms_base.specs.declared.names.Name.{Name}
 use Rattle.ms_world.specs.declared.event.Event.{Event}
 use Rattle.ms_world.specs.Held.{HeldView}
@@ -10,6 +10,8 @@ use Rattle.ms_world.specs.Worlds.{ClientView, WorldView, votes_of_world}
 use Rattle.ms_drill.specs.declared.drill.Drill.{Drill}
 use Rattle.ms_drill.specs.Drills.{drill_at}
 use Rattle.ms_record.specs.declared.entry.Entry.{Entry}
+use Rattle.ms_base.specs.declared.names.Quantity.{Quantity}
+use Rattle.ms_record.specs.declared.refusal.Place.TheVariants as places
 use Rattle.ms_record.specs.declared.refusal.Refusal.{Refusal}
 use Rattle.ms_record.specs.declared.refusal.Refusal.TheVariants as refusals
 use Rattle.ms_record.specs.declared.refusal.Why.{Why}
@@ -65,9 +67,14 @@ RunSays drill result =
     ((genesis : Name) × (entries : List Entry) × (known : List ℕ) × RunsWhole drill genesis entries known × (result ≡ Ok (reports.Drill genesis entries known)))
     ⊎ ((number : ℕ) × (why : Why) × StopsAt drill number why × (result ≡ Err (refusals.NotEnabled number why)))
 
+-- memory may run out for a schedule whose head is right and that has no more events than it may
+pub record MayLackDrill (text : List ℕ) : Type 0 where
+  pub head : drill_at text ≢ Err (refusals.BadInput places.Input 1)
+  pub events : (what : Quantity) (value : ℕ) → drill_at text ≢ Err (refusals.Limit what value)
+
 -- what the text of a drill is answered with
 abbrev pub DrillSays : List ℕ → Result Report Refusal → Type 0
-DrillSays = TextSays drill_at RunSays
+DrillSays = TextSays drill_at RunSays MayLackDrill
 
 -- a world that all events of the drill lead to
 pub record LeadsTo (drill : Drill) (held : HeldView) : Type 0 where

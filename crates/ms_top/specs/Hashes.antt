@@ -7,7 +7,8 @@ use Rattle.ms_object.specs.Trees.{Texts}
 use Rattle.ms_record.specs.declared.refusal.Refusal.{Refusal}
 use Rattle.ms_record.specs.declared.refusal.Refusal.TheVariants as refusals
 use Rattle.ms_tree.specs.Files.{FileList}
-use Rattle.ms_tree.specs.Listings.{listing_at}
+use Rattle.ms_text.specs.Lines.{lines_of}
+use Rattle.ms_tree.specs.Listings.{RanOut, listing_at}
 use Rattle.ms_tree.specs.Planting.{IsPlanted, Collide, object_texts, different, first_large}
 use Rattle.ms_words.specs.declared.report.Report.{Report}
 use Rattle.ms_words.specs.declared.report.Report.TheVariants as reports
@@ -34,6 +35,14 @@ pub record IsTooLarge (files : FileList) (result : Result Report Refusal) : Type
 abbrev pub FilesSay : FileList → Result Report Refusal → Type 0
 FilesSay files result = HashIs files result ⊎ IsTooLarge files result
 
+-- memory may run out for the tree of files of which none is too large
+pub record MayLackTree (files : FileList) : Type 0 where
+  pub small : first_large formats.One files ≡ None
+
+-- memory may run out for a listing behind right lines, at one of two words; or for the tree of its files
+abbrev pub MayLackListing : List ℕ → Type 0
+MayLackListing text = RanOut (lines_of text) ⊎ ((files : FileList) × (listing_at text ≡ Ok files) × MayLackTree files)
+
 -- what the text of a listing is answered with
 abbrev pub HashSays : List ℕ → Result Report Refusal → Type 0
-HashSays = TextSays listing_at FilesSay
+HashSays = TextSays listing_at FilesSay MayLackListing

@@ -1,5 +1,5 @@
 -- A command over one input.
-use Rattle.std.specs.Prelude.{◌≡◌, ◌⊎◌, ℕ, ◌+◌, ◌≤◌, true, List, length, Result, Ok, Err}
+use Rattle.std.specs.Prelude.{◌≡◌, ◌⊎◌, ℕ, ◌+◌, ◌≤◌, true, false, List, length, Result, Ok, Err}
 use Rattle.ms_base.specs.Counts.{Rose, one_more}
 use Rattle.ms_base.specs.Outside.{InputsView, OutsideView, HasText}
 use Rattle.ms_base.specs.Reading.{HasLongText}
@@ -9,7 +9,7 @@ use Rattle.ms_record.specs.declared.refusal.Place.TheVariants as places
 use Rattle.ms_record.specs.declared.refusal.Refusal.{Refusal}
 use Rattle.ms_record.specs.declared.refusal.Refusal.TheVariants as refusals
 use Rattle.ms_words.specs.declared.report.Report.{Report}
-use Rattle.ms_top.specs.Steps.{Then, Inside, OfValue, OrNoMemory}
+use Rattle.ms_top.specs.Steps.{Then, Inside, OfValue, OrLacks}
 
 -- the text of that name was read to its end
 pub record InputIs (name : List ℕ) (old new : InputsView) (text : List ℕ) : Type 0 where
@@ -23,7 +23,7 @@ InputGives name old new (Ok text) = InputIs name old new text
 InputGives name old new (Err refusal) =
     ((refusal ≡ refusals.OutsideFault places.Input) × Rose old.faults new.faults)
     ⊎ (((refusal ≡ refusals.Limit quantities.Input (INPUT_BYTES + 1)) × HasLongText old name INPUT_BYTES × (new.faults ≡ old.faults))
-    ⊎ ((refusal ≡ refusals.NoMemory) × (new.faults ≡ old.faults)))
+    ⊎ ((refusal ≡ refusals.NoMemory) × (new.ended ≡ false) × (new.faults ≡ old.faults)))
 
 -- an input is read once: the texts stay, and the count of faults does not fall
 pub record ReadsInput (name : List ℕ) (old new : OutsideView) (result : Result (List ℕ) Refusal) : Type 0 where
@@ -32,9 +32,9 @@ pub record ReadsInput (name : List ℕ) (old new : OutsideView) (result : Result
   pub reads : new.inputs.reads ≡ one_more old.inputs.reads
   pub later : old.inputs.faults ≤ new.inputs.faults
 
--- the answer on a text is of the value that it spells; or memory runs out
-abbrev pub TextSays : {A : Type 0} → (List ℕ → Result A Refusal) → (A → Result Report Refusal → Type 0) → List ℕ → Result Report Refusal → Type 0
-TextSays spelled Says text result = OrNoMemory result (OfValue (spelled text) Says result)
+-- the answer on a text is of the value that it spells; or memory runs out, where it may for this text
+abbrev pub TextSays : {A : Type 0} → (List ℕ → Result A Refusal) → (A → Result Report Refusal → Type 0) → (List ℕ → Type 0) → List ℕ → Result Report Refusal → Type 0
+TextSays spelled Says MayLack text result = OrLacks result (MayLack text) (OfValue (spelled text) Says result)
 
 -- the input of that name is read, and the answer is of its text
 abbrev pub OnInput : (List ℕ → Result Report Refusal → Type 0) → List ℕ → OutsideView → OutsideView → Result Report Refusal → Type 0

@@ -23,3 +23,7 @@ OfValue {A} {B} read Says result =
 -- memory runs out, or this
 abbrev pub OrNoMemory : {A : Type 0} → Result A Refusal → Type 0 → Type 0
 OrNoMemory result P = (result ≡ Err refusals.NoMemory) ⊎ P
+
+-- memory runs out, as it may, or this
+abbrev pub OrLacks : {A : Type 0} → Result A Refusal → Type 0 → Type 0 → Type 0
+OrLacks result May P = ((result ≡ Err refusals.NoMemory) × May) ⊎ P

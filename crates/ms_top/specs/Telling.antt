@@ -1,16 +1,13 @@
 -- How an answer is told: its lines go to the sink, and its status is answered.
-use Rattle.std.specs.Prelude.{◌≡◌, ◌≢◌, ℕ, ◌+◌, ◌<◌, ◌≤◌, List, length, take, ◌⊎◌, Result, Ok, Err}
+use Rattle.std.specs.Prelude.{◌≡◌, ℕ, ◌<◌, ◌≤◌, List, length, take, ◌⊎◌, Result, Ok, Err}
 use Rattle.std.specs.Io.KnownBytes.{Appends}
 use Rattle.ms_base.specs.Counts.{Rose}
 use Rattle.ms_base.specs.Outside.{OutsideView, SinkView, StaysTold}
-use Rattle.ms_base.specs.declared.limits.TheConstants.{INPUT_BYTES}
-use Rattle.ms_base.specs.declared.names.Quantity.TheVariants as quantities
-use Rattle.ms_record.specs.declared.refusal.Place.TheVariants as places
 use Rattle.ms_record.specs.declared.refusal.Refusal.{Refusal}
 use Rattle.ms_record.specs.declared.refusal.Refusal.TheVariants as refusals
 use Rattle.ms_words.specs.declared.report.Report.{Report}
 use Rattle.ms_words.specs.declared.report.Report.TheVariants as reports
-use Rattle.ms_words.specs.Texts.{status_of, text_of}
+use Rattle.ms_words.specs.Texts.{HasManyLines, status_of, text_of}
 
 -- the report that tells an answer
 abbrev pub report_of : Result Report Refusal → Report
@@ -42,11 +39,10 @@ no_memory = reports.Refused refusals.NoMemory
 abbrev pub PrintsOrNoMemory : Report → SinkView → SinkView → ℕ → Type 0
 PrintsOrNoMemory report before after status = Tells report before after status ⊎ Tells no_memory before after status
 
--- the report is none of those whose lines are told without memory: wrong words, an input that failed, one that is too long
-pub record NeedsMemory (report : Report) : Type 0 where
-  pub words : report ≢ reports.Refused refusals.Usage
-  pub input : report ≢ reports.Refused (refusals.OutsideFault places.Input)
-  pub long : report ≢ reports.Refused (refusals.Limit quantities.Input (INPUT_BYTES + 1))
+-- its lines are told with memory: those of a command's answer, and of a refusal that has many
+abbrev pub NeedsMemory : Report → Type 0
+NeedsMemory (reports.Refused refusal) = HasManyLines refusal
+NeedsMemory report = Unit {0}
 
 -- the same; memory runs out for no report that is told without
 abbrev pub TellsOrNoMemory : Report → SinkView → SinkView → ℕ → Type 0

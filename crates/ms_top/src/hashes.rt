@@ -2,8 +2,8 @@
 
 ghost use Rattle.std.specs.Prelude.{◌≡◌, ◌≤◌, length};
 ghost use Rattle.ms_base.specs.declared.limits.TheConstants.{INPUT_BYTES};
-ghost use Rattle.ms_top.specs.Hashes.{HashSays, FilesSay};
-ghost use Rattle.ms_top.specs.Steps.{OrNoMemory};
+ghost use Rattle.ms_top.specs.Hashes.{HashSays, FilesSay, MayLackTree};
+ghost use Rattle.ms_top.specs.Steps.{OrLacks};
 
 use ms_object::Format;
 use ms_record::Refusal;
@@ -24,7 +24,7 @@ pub(crate) fn hash_text(alloc: Global, text: &[u8]) -> Result<Report, Refusal>
 
 /// The answer on files.
 fn on_files(alloc: Global, files: &Files) -> Result<Report, Refusal>
-    ensures { OrNoMemory result (FilesSay files.now result) }
+    ensures { OrLacks result (MayLackTree files.now) (FilesSay files.now result) }
 {
     match plant(alloc, files, Format::One) {
         Ok(planted) => Ok(Report::Hash {

@@ -1,8 +1,7 @@
 -- The lines of the members that are left.
 use Rattle.std.proofs.Common.{◌≡◌, ℕ, ◌+◌, ◌<◌, List, ◌∷◌, ◌++◌, sym, ap, ◌∙◌, length, drop, get_or, append_assoc, add-one, drop-cons}
 use Rattle.ms_record.specs.declared.entry.Entry.{Entry}
-use Rattle.std.specs.Prelude.{codes}
-use Rattle.ms_words.specs.Texts.{member_line, member_lines, known_line, known_lines, service_words}
+use Rattle.ms_words.specs.Texts.{member_line, member_lines, known_line, known_lines}
 
 pub members_on : (entries : List Entry) (i : ℕ) (d : Entry) (out line all : List ℕ) → i < length entries → line ≡ member_line (i + 1) (get_or entries i d)
     → out ++ member_lines (i + 1) (drop i entries) ≡ all → (out ++ line) ++ member_lines (i + 1 + 1) (drop (i + 1) entries) ≡ all
@@ -24,7 +23,3 @@ known_on known i d out line all within is e =
     let g : drop i known ≡ get_or known i d ∷ drop (i + 1) known = rw add-one (drop-cons known i d within) in
     let f : known_lines i (drop i known) ≡ known_line i (get_or known i d) ++ known_lines (i + 1) (drop (i + 1) known) = ap (λ (ks : List ℕ). known_lines i ks) g in
     ap (λ (r : List ℕ). out ++ r) (sym f) ∙ e)
-
-pub no_majority_pushed : (out failed numbers x1 x2 x3 : List ℕ) → x1 ≡ out ++ codes "no majority" → x2 ≡ x1 ++ service_words numbers → x3 ≡ x2 ++ codes "\n" → numbers ≡ failed
-    → x3 ≡ out ++ (codes "no majority" ++ service_words failed ++ codes "\n")
-no_majority_pushed out failed numbers x1 x2 x3 p1 p2 p3 same = rw (p3, p2, p1, same) (simp append_assoc)

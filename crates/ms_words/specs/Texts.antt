@@ -182,6 +182,11 @@ refusal_text (Limit what value) = limit_line what value
 refusal_text (NotEnabled event why) = event_line event why
 refusal_text (Unlisted service ballot) = unlisted_line service.0
 
+-- it has more lines than one
+abbrev pub HasManyLines : Refusal → Type 0
+HasManyLines (Contended rivals) = Unit {0}
+HasManyLines refusal = ⊥
+
 abbrev pub text_of : Report → List ℕ
 text_of (Audit genesis entries) = audit_text genesis.0 entries
 text_of (Drill genesis entries known) = drill_text genesis.0 entries known

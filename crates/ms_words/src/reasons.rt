@@ -1,6 +1,6 @@
 //! The words that reports are told in.
 
-ghost use Rattle.std.specs.Prelude.{◌≡◌};
+ghost use Rattle.std.specs.Prelude.{◌≡◌, ◌≤◌, length};
 ghost use Rattle.ms_words.specs.Texts.{kind_word, place_word, quantity_word, text_word, why_word};
 
 use ms_base::Quantity;
@@ -8,7 +8,8 @@ use ms_record::{Entry, Place, Why};
 
 /// Where a fault is.
 pub fn place_word(place: Place) -> &'static [u8]
-    ensures { result.now ≡ place_word place }
+    ensures is { result.now ≡ place_word place }
+    ensures short { length result.now ≤ 10 }
 {
     match place {
         Place::Config => b"config",
@@ -21,7 +22,8 @@ pub fn place_word(place: Place) -> &'static [u8]
 
 /// What text has a wrong line: the configuration or an input.
 pub fn text_word(place: Place) -> &'static [u8]
-    ensures { result.now ≡ text_word place }
+    ensures is { result.now ≡ text_word place }
+    ensures short { length result.now ≤ 10 }
 {
     match place {
         Place::Config => b"config",
@@ -31,7 +33,8 @@ pub fn text_word(place: Place) -> &'static [u8]
 
 /// What passes a limit.
 pub fn quantity_word(what: Quantity) -> &'static [u8]
-    ensures { result.now ≡ quantity_word what }
+    ensures is { result.now ≡ quantity_word what }
+    ensures short { length result.now ≤ 10 }
 {
     match what {
         Quantity::Service => b"service",
@@ -55,7 +58,8 @@ pub fn quantity_word(what: Quantity) -> &'static [u8]
 
 /// The condition of an event that fails.
 pub fn why_word(why: Why) -> &'static [u8]
-    ensures { result.now ≡ why_word why }
+    ensures is { result.now ≡ why_word why }
+    ensures short { length result.now ≤ 10 }
 {
     match why {
         Why::Client => b"client",
