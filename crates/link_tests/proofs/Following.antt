@@ -5,7 +5,6 @@ use Rattle.ms_core.specs.Views.{View, configuration, log_in, offers_told, IsClos
 use Rattle.ms_ken.specs.Lists.{list_at, Begins, MayFollow}
 use Rattle.ms_ken.specs.Prefixes.{prefix_trans}
 use Rattle.ms_ken.specs.Rows.{item_else}
-use Rattle.ms_core.proofs.Following.{event_may_follow}
 use Rattle.ms_ken.specs.Known.{TableId, Known}
 use Rattle.ms_link.specs.Links.{LinkView, Learns, MayAdd, Stays}
 use Rattle.link_tests.specs.Untold.{IsReady, IsAsking, KnowsUntold}
@@ -14,6 +13,7 @@ use Rattle.ms_record.specs.declared.item.Item.{Item}
 use Rattle.ms_record.specs.declared.item.Item.TheVariants.{Log, Told, Untold}
 use Rattle.ms_record.specs.declared.log.LogEvent.{LogEvent}
 use Rattle.ms_record.specs.declared.setting.Setting.{Setting}
+use Rattle.ms_record.specs.Settings.{IsSetting}
 
 -- what claims nothing stays so
 pub untold_stays : (lists more : View) → Begins lists more → KnowsUntold lists → KnowsUntold more
@@ -75,11 +75,16 @@ member_stays old new setting before after member link learns = record {
   wide = subst (λ (l : LinkView). l.service < l.board.words) (sym link.same) member.wide;
 }
 
+-- where a setting is told, an event of a service may follow that the view supports
+abbrev pub SupportedFollow : Type 0
+SupportedFollow = (view : View) (setting : Setting) (service : ℕ) (event : LogEvent) → list_at view configuration ≡ Told setting ∷ [] → IsSetting setting → service < setting.services → service < length view
+    → SupportsEvent setting (log_in view) (offers_told view) event → MayFollow IsClosed (length view) view service (Log event)
+
 -- a member may ask for what its view supports
-pub member_may_ask : (link : LinkView) (setting : Setting) (pass : Known Item) (event : LogEvent) → IsMember link.board link.service setting pass → IsClosed pass.lists → length pass.lists ≡ pass.board.words
+pub member_may_ask : SupportedFollow → (link : LinkView) (setting : Setting) (pass : Known Item) (event : LogEvent) → IsMember link.board link.service setting pass → IsClosed pass.lists → length pass.lists ≡ pass.board.words
     → SupportsEvent setting (log_in pass.lists) (offers_told pass.lists) event → MayAdd IsClosed link pass event
-member_may_ask link setting pass event member closed owners supports =
+member_may_ask follow link setting pass event member closed owners supports =
     let words = owners ∙ ap (λ (t : TableId). t.words) member.on_board in
     let alone = told_alone setting pass.lists closed member.told in
     let wide = subst (λ (n : ℕ). link.service < n) (sym words) member.wide in
-    subst (λ (n : ℕ). MayFollow IsClosed n pass.lists link.service (Log event)) words (event_may_follow pass.lists setting link.service event alone member.ranges member.below wide supports)
+    subst (λ (n : ℕ). MayFollow IsClosed n pass.lists link.service (Log event)) words (follow pass.lists setting link.service event alone member.ranges member.below wide supports)

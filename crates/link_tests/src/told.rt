@@ -140,6 +140,7 @@ fn prepare<L: Link<FoldClosed>>(
         return Err(LinkError::NoMemory);
     }
     pass.recall();
+    may_follow();
     link.append(alloc, board, pass, VOTES, text)
 }
 
@@ -158,6 +159,7 @@ fn append_ref<L: Link<FoldClosed>>(
     ensures board { (L.sees link.new).board ≡ (L.sees link.old).board }
 {
     pass.recall();
+    may_follow();
     link.append(alloc, board, pass, REFS, &[byte])
 }
 
@@ -180,6 +182,7 @@ fn put<L: Link<FoldClosed>>(
     }
     let name = name_of(text);
     pass.recall();
+    may_follow();
     link.put(alloc, board, pass, 1, &name, text)
 }
 
@@ -197,6 +200,7 @@ fn drop_first<L: Link<FoldClosed>>(
     ensures board { (L.sees link.new).board ≡ (L.sees link.old).board }
 {
     pass.recall();
+    may_follow();
     link.drop_below(alloc, board, pass, 1)
 }
 

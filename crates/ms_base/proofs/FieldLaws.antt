@@ -1,29 +1,19 @@
 -- A field that is read is spelled so, and what is spelled so is read again.
-use Rattle.std.proofs.Common.{◌≡◌, ℕ, suc, ◌+◌, ◌-◌, ◌^◌, ◌<◌, ◌≤◌, Bool, true, false, cond, ltb, List, [], ◌∷◌, ◌++◌, length, take, drop, Option, Some, None, refl, sym, subst, ◌∙◌, arith, inl, inr}
+use Rattle.std.proofs.Common.{◌≡◌, ℕ, ◌+◌, ◌-◌, ◌^◌, ◌<◌, ◌≤◌, Bool, true, false, cond, ltb, List, [], ◌∷◌, ◌++◌, length, take, drop, Some, None, refl, sym, subst, arith, inl, inr}
 use Rattle.std.specs.Prelude.{nat_le, ◌&&◌}
 use Rattle.std.specs.Int.{Width, w32, w64, byte_len, from_be_bytes, to_be_bytes}
 use Rattle.std.proofs.lemmas.Bool.{cases_lt, ltb-false, le-ltb, leb-true, le-leb}
 use Rattle.std.proofs.lemmas.List.{take_at, drop_at, take-append-drop, length-append, length-take, length-take-le, get_or-drop, get_or-take, get_or_past}
 use Rattle.std.proofs.lemmas.Nat.{be_bytes_4, be_bytes_8, from_be_bytes-to_be_bytes_4, from_be_bytes-to_be_bytes_8}
-use Rattle.ms_base.specs.Options.{◌>>=◌}
+use Rattle.ms_base.specs.Options.{bind_some, both}
 use Rattle.ms_base.specs.declared.limits.TheConstants.{CLIENTS}
 use Rattle.ms_base.specs.declared.names.Name.{Name}
 use Rattle.ms_base.specs.declared.names.ClientId.{ClientId}
 use Rattle.ms_base.specs.Fields.{IsBytes, byte_at, bytes_at, number_at, in_range, number_within, name_at, client_at}
-use Rattle.ms_base.specs.FieldLaws.{Takes, FieldsSpelled, FieldsRead}
+use Rattle.ms_base.specs.FieldLaws.{Takes, FieldsSpelled, FieldsRead, IsBytes-rest}
+use Rattle.ms_base.specs.Places.{some_same}
 
 -- ---- steps
-
--- the value of a step that gave one
-pub bind_some : {A B : Type 0} (o : Option A) (f : A → Option B) (y : B) → (o >>= f) ≡ Some y → (x : A) × (o ≡ Some x) × (f x ≡ Some y)
-bind_some (Some x) f y e = (x, refl, e)
-bind_some None f y e = absurd cc
-
-abbrev given : {A : Type 0} → A → Option A
-given x = Some x
-
-pub some_is : {A : Type 0} (x y : A) → given x ≡ given y → x ≡ y
-some_is x y e = cc
 
 -- a test that did not refuse
 none_or : {A : Type 0} (b : Bool) (x y : A) → cond b None (Some x) ≡ Some y → (b ≡ false) × (x ≡ y)
@@ -33,11 +23,6 @@ none_or false x y e = (refl, cc)
 some_or : {A : Type 0} (b : Bool) (x y : A) → cond b (Some x) None ≡ Some y → (b ≡ true) × (x ≡ y)
 some_or true x y e = (refl, cc)
 some_or false x y e = absurd cc
-
-both : (a b : Bool) → (a && b) ≡ true → (a ≡ true) × (b ≡ true)
-both true true h = (refl, refl)
-both true false h = absurd cc
-both false b h = absurd cc
 
 -- ---- texts
 
@@ -51,15 +36,12 @@ IsBytes-take n text h i =
       | inr le ↦ rw (get_or_past (take n text) i 0 (omega (arith, length-take n text))) (omega arith)
     ]
 
-pub IsBytes-rest : (b : ℕ) (text : List ℕ) → IsBytes (b ∷ text) → IsBytes text
-IsBytes-rest b text h i = h (suc i)
-
 -- ---- bytes
 
 pub byte_takes : (text : List ℕ) (x : ℕ × List ℕ) → IsBytes text → byte_at text ≡ Some x → Takes text (x.0 ∷ []) x.1
 byte_takes [] x fits e = absurd cc
 byte_takes (b ∷ rest) x fits e =
-    subst (λ (y : ℕ × List ℕ). Takes (b ∷ rest) (y.0 ∷ []) y.1) (some_is (b, rest) x e) (record { parts = refl; bytes = IsBytes-rest b rest fits })
+    subst (λ (y : ℕ × List ℕ). Takes (b ∷ rest) (y.0 ∷ []) y.1) (some_same (b, rest) x e) (record { parts = refl; bytes = IsBytes-rest b rest fits })
 
 pub bytes_take : (count : ℕ) (text : List ℕ) (x : List ℕ × List ℕ) → IsBytes text → bytes_at count text ≡ Some x → Takes text x.0 x.1 × (length x.0 ≡ count)
 bytes_take count text x fits e =
@@ -150,7 +132,7 @@ client_takes text x fits e =
     let c = bind_some (number_within 0 (CLIENTS - 1) text) (λ n. Some (record { 0 = n.0 }, n.1)) x e in
     let t = within_takes 0 (CLIENTS - 1) text c.0 fits c.1 in
     let made : ClientId × List ℕ = (record { 0 = c.0.0 }, c.0.1) in
-    subst (λ (y : ClientId × List ℕ). Takes text (to_be_bytes w32 y.0.0) y.1 × (y.0.0 < CLIENTS)) (some_is made x c.2) (t.0, omega (arith, t.2))
+    subst (λ (y : ClientId × List ℕ). Takes text (to_be_bytes w32 y.0.0) y.1 × (y.0.0 < CLIENTS)) (some_same made x c.2) (t.0, omega (arith, t.2))
 
 pub client_again : (client : ClientId) (rest : List ℕ) → client.0 < CLIENTS → client_at (to_be_bytes w32 client.0 ++ rest) ≡ Some (client, rest)
 unfolding client_at

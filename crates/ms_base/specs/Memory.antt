@@ -1,12 +1,11 @@
 -- The outside in memory: what is held, and the numbers of the calls that fail, counted from 0.
-use Rattle.std.specs.Prelude.{◌≡◌, ◌⊎◌, ℕ, ◌+◌, ◌<◌, ◌≤◌, ◌==◌, ◌&&◌, Bool, true, false, List, [], ◌∷◌, ◌++◌, length, map, nat_lt, take, drop, Option, Some, None, Result, Ok, Err, IfSome, if◌then◌else◌}
+use Rattle.std.specs.Prelude.{◌≡◌, ◌⊎◌, ℕ, ◌+◌, ◌==◌, Bool, true, false, List, length, map, nat_lt, Option, Some, None, Result, Ok, Err, if◌then◌else◌}
 use Rattle.std.specs.List.{list_any}
 use Rattle.ms_base.specs.Counts.{one_more}
-use Rattle.ms_base.specs.declared.outside.Failed.{Failed}
 use Rattle.ms_base.specs.declared.outside.ReadError.{ReadError}
 use Rattle.ms_base.specs.declared.outside.ReadError.TheVariants as errors
 use Rattle.ms_base.specs.declared.memory.InputText.{InputText}
-use Rattle.ms_base.specs.Outside.{SourceView, SinkView, InputsView, shows_end, text_named}
+use Rattle.ms_base.specs.Outside.{SourceView, SinkView, InputsView, text_named}
 
 -- which calls fail, how many were made, and how many failed
 pub record Calls : Type 0 where

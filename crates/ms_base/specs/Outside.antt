@@ -1,5 +1,5 @@
 -- What contracts see of the objects of the outside: told content, and a count of faults.
-use Rattle.std.specs.Prelude.{◌≡◌, ℕ, Bool, true, false, ◌&&◌, ◌==◌, nat_lt, List, [], ◌∷◌, Option, Some, None, Result, Ok, Err, IfSome, IsSome, bytes_eq, if◌then◌else◌}
+use Rattle.std.specs.Prelude.{◌≡◌, ℕ, Bool, false, ◌&&◌, ◌==◌, nat_lt, List, [], ◌∷◌, Option, Some, None, Result, Ok, Err, IfSome, IsSome, bytes_eq, if◌then◌else◌}
 use Rattle.ms_base.specs.declared.outside.Failed.{Failed}
 
 -- a source: the bytes that are left, where they are told; whether the last read showed the end

@@ -5,6 +5,7 @@ use Rattle.std.specs.List.Sorted.{IsStrictlySortedBy}
 use Rattle.std.proofs.lemmas.Slice.Eq.{bytes_eq-Decides}
 use Rattle.sha2.proofs.Facts256.{length-sha256}
 use Rattle.sha2.specs.Sha256.{sha256, digest_bytes, hash_after, compress, rounds, schedule, first_words}
+use Rattle.ms_base.specs.Places.{some_same}
 use Rattle.ms_base.specs.declared.names.ClientId.{ClientId}
 use Rattle.ms_base.specs.declared.names.Name.{Name}
 use Rattle.ms_object.specs.declared.format.Format.{Format}
@@ -14,9 +15,6 @@ use Rattle.ms_object.specs.declared.object.Object.TheVariants as objects
 use Rattle.ms_object.specs.Objects.{Spells, object_text}
 use Rattle.ms_object.specs.Reading.{object_at}
 use Rattle.ms_object.specs.Trees.{Texts, IsTree, object_named, object_or_fault, text_or_fault, or_fault, top_of, met_below, walk, walk_rows, Met, first_fault}
-
-some_same : (x y : List ℕ) → Some x ≡ Some y → x ≡ y
-some_same x y e = cc
 
 -- ---- the texts
 

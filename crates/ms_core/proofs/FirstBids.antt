@@ -4,10 +4,10 @@ use Rattle.ms_base.specs.declared.names.Name.{Name}
 use Rattle.ms_core.proofs.EmptyVersion.{directory, root, version, top}
 use Rattle.ms_core.proofs.Following.{told_first, event_may_follow}
 use Rattle.ms_core.proofs.OneService.{Read, only, only_zero, only_majority, in_majority, some_service, rows_below, row_marked, whole, put_directory, put_version, supports_prepare, supports_accept, tells_event, tells_offer, not_hasty, not_early, ballot_of_round, first_entry, second_plan, second_entry, prepare, accept, reads_prepare, reads_accept, first_fits, plan_fits, second_fits, rows_are, enough, genesis_is, first_voters}
-use Rattle.ms_core.proofs.Living.{first_generation}
-use Rattle.ms_core.specs.Valid.{plan_behind}
+use Rattle.ms_record.specs.InForce.{first_generation}
+use Rattle.ms_core.specs.Valid.{judging_plan}
 use Rattle.std.proofs.lemmas.Bool.{cases_lt}
-use Rattle.ms_core.proofs.Places.{in_none, in_cases, some_same}
+use Rattle.ms_base.specs.Places.{in_none, in_cases, some_same}
 use Rattle.ms_core.proofs.Telling.{tells, offered, log_supported}
 use Rattle.ms_core.specs.FirstBids.{with_put, with_vote, with_offer, with_drop, IsBid, IsCollected, MayNotOffer, MayDrop, MayNotDrop}
 use Rattle.ms_core.specs.Placing.{OnEnough}
@@ -254,7 +254,7 @@ first_bid r setting set one = record {
 }
 
 -- without the two texts there is no offer
-plan_at_first : (setting : Setting) (set : IsSetting setting) (members : List Entry) → 1 ≡ length members + 1 → set.plan ≡ plan_behind setting members (first_entry setting)
+plan_at_first : (setting : Setting) (set : IsSetting setting) (members : List Entry) → 1 ≡ length members + 1 → set.plan ≡ judging_plan setting members (first_entry setting)
 plan_at_first setting set [] at = sym (genesis_is setting set)
 plan_at_first setting set (e ∷ members) at = absurd (omega (arith, at))
 

@@ -4,7 +4,7 @@ use Rattle.std.proofs.lemmas.List.{append-nil, length-replicate}
 use Rattle.std.proofs.lemmas.List.Elements.{filter_map-append}
 use Rattle.std.specs.List.{filter_map}
 use mathlib.Core.List.{IsPrefix}
-use Rattle.ms_core.proofs.Places.{same_or_not}
+use Rattle.ms_base.specs.Places.{same_or_not}
 use Rattle.ms_core.proofs.Telling.{tells}
 use Rattle.ms_core.specs.Closing.{support_stays}
 use Rattle.ms_core.specs.Asking.{MayAsk, MayOffer}

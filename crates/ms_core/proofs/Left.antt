@@ -1,7 +1,7 @@
 -- Of more services than another part has, one is not of that part.
 use Rattle.std.proofs.Common.{◌≡◌, ℕ, ◌+◌, ◌<◌, Bool, true, false, cond, List, [], ◌∷◌, refl, count_by, Contains, arith}
 use Rattle.std.proofs.lemmas.List.Sums.{sum_by-cons}
-use Rattle.ms_core.proofs.Places.{in_here, in_later}
+use Rattle.ms_base.specs.Places.{in_here, in_later}
 use Rattle.ms_core.specs.Placing.{OnEnough}
 use Rattle.ms_record.specs.declared.plan.PlanRow.{PlanRow}
 use Rattle.ms_record.specs.Plans.{PlanView}

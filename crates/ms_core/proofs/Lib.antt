@@ -1,6 +1,3 @@
-pub mod Voters
-pub mod Laws
-pub mod Places
 pub mod Living
 pub mod Telling
 pub mod Viewing
@@ -9,6 +6,5 @@ pub mod Following
 pub mod EmptyVersion
 pub mod OneService
 pub mod FirstBids
-pub mod Spelled
 pub mod Behind
 pub mod Left

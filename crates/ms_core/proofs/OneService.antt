@@ -8,10 +8,11 @@ use Rattle.sha2.specs.Sha256.{sha256}
 use Rattle.ms_base.specs.declared.names.Name.{Name}
 use Rattle.ms_core.proofs.EmptyVersion.{nobody, directory, root, version, top, directory_spelled, version_spelled, two_texts, has_directory, has_version, texts_are, no_files}
 use Rattle.ms_core.proofs.Following.{tells_item}
-use Rattle.ms_core.proofs.Places.{in_here, some_same}
+use Rattle.ms_base.specs.Places.{in_here, some_same}
 use Rattle.ms_core.proofs.Telling.{tells, vote_offered, offered}
 use Rattle.ms_core.specs.FirstBids.{with_offer}
-use Rattle.ms_core.proofs.Voters.{count_some, first_known, voters_known}
+use Rattle.ms_base.specs.CountLaws.{count_some}
+use Rattle.ms_record.specs.Voters.{first_known, voters_known}
 use Rattle.ms_core.specs.Placing.{PlacedBy, HasObject, HoldsVersion, wanted_in}
 use Rattle.ms_core.specs.declared.want.Want.{Want}
 use Rattle.ms_core.specs.Views.{View, configuration, log_in, offers_told, votes_told, WholeBy, SupportsOffer, SupportsEvent, TellsSetting, IsClosed}

@@ -4,7 +4,7 @@ use Rattle.std.proofs.lemmas.Bool.{cases_lt}
 use Rattle.std.proofs.lemmas.Bool.Decides.{nat_tests}
 use Rattle.std.proofs.lemmas.Option.{slice_get_within, get_or_from_slice_get}
 use Rattle.std.specs.List.{filter_map, cons_option}
-use Rattle.ms_core.proofs.Places.{same_or_not, append_cases, in_here, in_later}
+use Rattle.ms_base.specs.Places.{same_or_not, append_cases, in_here, in_later, at_contains, contains_at}
 use Rattle.ms_core.specs.Views.{View, configuration, owner_of_client, log_in, offers_told, votes_told, SupportsEvent, SupportsOffer, TellsSetting, IsClosed}
 use Rattle.ms_ken.specs.Lists.{list_at}
 use Rattle.ms_ken.specs.Prefixes.{get_splits}
@@ -54,14 +54,6 @@ module _ {X Y : Type 0} (f : X → Option Y) where
       let same : first ≡ x = (let q : Some first ≡ Some x = at in cc) in
       (zero, ap (λ (o : Option Y). slice_get (cons_option o (filter_map f xs)) zero) (ap f same ∙ is))
   into_item (first ∷ xs) (suc i) x y at is = into_step (f first) (filter_map f xs) y (into_item xs i x y at is)
-
-pub at_contains : {X : Type 0} (xs : List X) (i : ℕ) (x : X) → slice_get xs i ≡ Some x → Contains xs x
-at_contains xs i x h = (i, slice_get_within xs i x h, get_or_from_slice_get xs i x x h)
-
-pub contains_at : {X : Type 0} (xs : List X) (x : X) → Contains xs x → (i : ℕ) × (slice_get xs i ≡ Some x)
-contains_at [] x h = absurd (omega (arith, h.1))
-contains_at (y ∷ xs) x (zero, below, here) = (zero, ap (λ (z : _). Some z) here)
-contains_at (y ∷ xs) x (suc k, below, here) = let r = contains_at xs x (k, omega (arith, below), here) in (suc r.0, r.1)
 
 is_offer : (x : Item) (r : Record) → offer_in x ≡ Some r → x ≡ Offer r
 is_offer (Log event) r h = absurd (let q : None ≡ Some r = h in cc)

@@ -1,10 +1,11 @@
 -- In a view that tells a setting, what is chosen agrees, is valid, and stays placed.
 use Rattle.std.proofs.Common.{◌≡◌, ℕ, ◌+◌, List, [], ◌∷◌, ◌++◌, Some, ◌⊎◌, inl, inr, ◌∙◌, subst, slice_get, length, arith}
 use Rattle.std.proofs.lemmas.Bool.{cases_lt}
-use Rattle.ms_core.proofs.Laws.{Laws}
-use Rattle.ms_core.proofs.Living.{OneList, AreBacked, live_stands, live_plan}
+use Rattle.ms_record.specs.ChainLaws.{ChainLaws}
+use Rattle.ms_core.specs.Living.{OneList, AreBacked}
+use Rattle.ms_core.proofs.Living.{live_stands, live_plan}
 use Rattle.ms_core.proofs.Telling.{tells, log_supported, vote_offered, offered, told_sound}
-use Rattle.ms_core.proofs.Voters.{count_some}
+use Rattle.ms_base.specs.CountLaws.{count_some}
 use Rattle.ms_core.specs.Closing.{closed_of_longer, logs_grow, whole_more}
 use Rattle.ms_core.specs.Growth.{linked_grows}
 use Rattle.ms_core.specs.Valid.{IsLive, plan_at}
@@ -21,7 +22,7 @@ use Rattle.ms_record.specs.Plans.{PlanView}
 use Rattle.ms_record.specs.Settings.{origin_of}
 use Rattle.ms_record.specs.Votes.{ChosenBy}
 
-pub view_agrees : (l : Laws) (setting : Setting) (view : View) → TellsSetting view setting → Agrees (votes_told view) (origin_of setting)
+pub view_agrees : (l : ChainLaws) (setting : Setting) (view : View) → TellsSetting view setting → Agrees (votes_told view) (origin_of setting)
 view_agrees l setting view h = l.agrees (votes_told view) (offers_told view) (origin_of setting) (told_sound setting view h)
 
 pub view_valid : (setting : Setting) (view : View) → TellsSetting view setting → (k : ℕ) (e : Entry) → IsChosen (votes_told view) (origin_of setting) k e → IsWholeMaster setting (log_in view) k e
@@ -34,25 +35,25 @@ view_valid setting view h k e c =
 pub view_next : (setting : Setting) (view : View) → TellsSetting view setting → AllNext (votes_told view) (origin_of setting)
 view_next setting view h k e c = (view_valid setting view h k e c).valid.next
 
-pub view_stands : (l : Laws) (setting : Setting) (view : View) (chain : List Entry) → TellsSetting view setting → IsChain (votes_told view) (origin_of setting) chain
+pub view_stands : (l : ChainLaws) (setting : Setting) (view : View) (chain : List Entry) → TellsSetting view setting → IsChain (votes_told view) (origin_of setting) chain
     → (i : ℕ) (e : Entry) → IsChosen (votes_told view) (origin_of setting) (i + 1) e → slice_get chain i ≡ Some e
 view_stands l setting view chain h is i e c = l.stands (votes_told view) (origin_of setting) chain i e (view_agrees l setting view h) (view_next setting view h) is c
 
-pub view_begins : (l : Laws) (setting : Setting) (view : View) → TellsSetting view setting → OneList setting (log_in view)
+pub view_begins : (l : ChainLaws) (setting : Setting) (view : View) → TellsSetting view setting → OneList setting (log_in view)
 view_begins l setting view h a b la lb short = l.begins (votes_told view) (origin_of setting) a b (view_agrees l setting view h) la lb short
 
 pub view_backed : (setting : Setting) (view : View) → TellsSetting view setting → AreBacked setting (log_in view)
 view_backed setting view h s floor has = (log_supported view setting h s _ has).1
 
 -- a chosen entry links on to the members that it is chosen behind
-pub view_links : (l : Laws) (setting : Setting) (view : View) → TellsSetting view setting → (k : ℕ) (e : Entry) → (c : IsChosen (votes_told view) (origin_of setting) k e) → LinksBehind (origin_of setting) c.members e
+pub view_links : (l : ChainLaws) (setting : Setting) (view : View) → TellsSetting view setting → (k : ℕ) (e : Entry) → (c : IsChosen (votes_told view) (origin_of setting) k e) → LinksBehind (origin_of setting) c.members e
 view_links l setting view h k e c =
     let n = view_next setting view h k e c in
     let same = l.one_list (votes_told view) (origin_of setting) n.members c.members (view_agrees l setting view h) n.linked c.linked (omega (arith, n.at, c.at)) in
     subst (λ (members : List Entry). LinksBehind (origin_of setting) members e) same n.links
 
 -- a chosen entry ends a linked list
-pub view_linked : (l : Laws) (setting : Setting) (view : View) → TellsSetting view setting → (i : ℕ) (e : Entry) → IsChosen (votes_told view) (origin_of setting) (i + 1) e
+pub view_linked : (l : ChainLaws) (setting : Setting) (view : View) → TellsSetting view setting → (i : ℕ) (e : Entry) → IsChosen (votes_told view) (origin_of setting) (i + 1) e
     → (members : List Entry) × (length members ≡ i) × IsLinked (votes_told view) (origin_of setting) (members ++ e ∷ [])
 view_linked l setting view h i e c =
     let members = c.members in
@@ -60,7 +61,7 @@ view_linked l setting view h i e c =
     (members, omega (arith, c.at), l.goes_on (votes_told view) (origin_of setting) members e c.linked chosen (view_links l setting view h (i + 1) e c))
 
 -- a live master stays whole
-pub view_live : (l : Laws) (setting : Setting) (view : View) (chain : List Entry) (i : ℕ) (e : Entry) → TellsSetting view setting
+pub view_live : (l : ChainLaws) (setting : Setting) (view : View) (chain : List Entry) (i : ℕ) (e : Entry) → TellsSetting view setting
     → IsChain (votes_told view) (origin_of setting) chain → IsLive setting chain i e → StaysWhole (log_in view) (plan_at setting chain i) e.version
 view_live l setting view chain i e h is live =
     let logs = log_in view in
@@ -76,7 +77,7 @@ view_live l setting view chain i e h is live =
 told_longer : (xs ys : View) (setting : Setting) → list_at xs configuration ≡ Told setting ∷ [] → list_at ys configuration ≡ Told setting ∷ [] → list_at (longer_lists xs ys) configuration ≡ Told setting ∷ []
 told_longer xs ys setting x y = list_at-longer_lists xs ys configuration ∙ longer_by (λ l. l ≡ Told setting ∷ []) (list_at xs configuration) (list_at ys configuration) (λ _. x) (λ _. y)
 
-pub views_agree : (l : Laws) (setting : Setting) (xs ys : View) (c d : List Entry) → length xs ≡ length ys → IsClosed xs → IsClosed ys → Agree xs ys
+pub views_agree : (l : ChainLaws) (setting : Setting) (xs ys : View) (c d : List Entry) → length xs ≡ length ys → IsClosed xs → IsClosed ys → Agree xs ys
     → list_at xs configuration ≡ Told setting ∷ [] → list_at ys configuration ≡ Told setting ∷ []
     → IsLinked (votes_told xs) (origin_of setting) c → IsLinked (votes_told ys) (origin_of setting) d → Begins c d ⊎ Begins d c
 views_agree l setting xs ys c d wide p q agree x y lc ld =

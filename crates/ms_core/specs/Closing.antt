@@ -4,7 +4,7 @@ use Rattle.std.specs.List.{filter_map}
 use Rattle.std.proofs.lemmas.List.Elements.{filter_map-append}
 use mathlib.Core.List.{IsPrefix}
 use Rattle.ms_core.specs.Growth.{valid_grows, backed_grows, put_stays}
-use Rattle.ms_core.specs.Valid.{plan_behind}
+use Rattle.ms_core.specs.Valid.{judging_plan}
 use Rattle.ms_core.specs.Views.{View, configuration, owner_of_client, log_in, offers_told, votes_told, WholeBy, IsWhole, SupportsEvent, SupportsLog, SupportsOwn, IsSupported, TellsSetting, IsClosed}
 use Rattle.ms_ken.specs.Lists.{list_at, Begins, Agree, longer, longer_lists}
 use Rattle.ms_ken.specs.Prefixes.{longer_by, longer_of_nil, longer_first, prefix_get}
@@ -75,7 +75,7 @@ own_stays setting xs ys begins client before (Offer (Accept k b e)) h =
         justified = is_justified_grows (votes_told xs) (votes_told ys) (origin_of setting) k b e (votes_grow (log_in xs) (log_in ys) grows) h.declared.justified;
         valid = valid_grows setting (log_in xs) (log_in ys) k e grows h.declared.valid;
       };
-      whole = whole_stays (log_in xs) (log_in ys) (plan_behind setting h.declared.valid.next.members e) e.version grows h.whole;
+      whole = whole_stays (log_in xs) (log_in ys) (judging_plan setting h.declared.valid.next.members e) e.version grows h.whole;
     }
 own_stays setting xs ys begins client before (Offer (Prepare k b)) h = h
 own_stays setting xs ys begins client before (Log event) h = h

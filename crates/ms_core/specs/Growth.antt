@@ -3,7 +3,7 @@ use Rattle.std.proofs.Common.{ℕ, List, inl, inr, subst, Contains}
 use Rattle.std.proofs.lemmas.List.Elements.{Contains-append_left}
 use Rattle.ms_base.specs.declared.names.Name.{Name}
 use Rattle.ms_core.specs.Placing.{PlacedBy, IsPlaced}
-use Rattle.ms_core.specs.Valid.{IsValid, IsBacked, plan_behind, votes_of_logs}
+use Rattle.ms_core.specs.Valid.{IsValid, IsBacked, judging_plan, votes_of_logs}
 use Rattle.ms_record.specs.declared.entry.Entry.{Entry}
 use Rattle.ms_record.specs.declared.log.LogEvent.{LogEvent}
 use Rattle.ms_record.specs.declared.log.LogEvent.TheVariants.{Put}
@@ -38,7 +38,7 @@ linked_grows setting old new c g h = linked_stays (votes_of_logs old) (votes_of_
 unfoldable pub valid_grows : (setting : Setting) (old new : ℕ → List LogEvent) (k : ℕ) (e : Entry) → LogsGrow old new → IsValid setting old k e → IsValid setting new k e
 valid_grows setting old new k e g h = record {
   next = record { members = h.next.members; linked = linked_grows setting old new h.next.members g h.next.linked; at = h.next.at; links = h.next.links };
-  placed = placed_grows old new (plan_behind setting h.next.members e) e.version g h.placed;
+  placed = placed_grows old new (judging_plan setting h.next.members e) e.version g h.placed;
 }
 
 pub backed_grows : (setting : Setting) (old new : ℕ → List LogEvent) (floor : ℕ) → LogsGrow old new → IsBacked setting old floor → IsBacked setting new floor

@@ -1,6 +1,6 @@
 pub mod Placing
 pub mod Valid
-pub mod Floors
+pub mod Living
 pub mod Growth
 pub mod Views
 pub mod Closing

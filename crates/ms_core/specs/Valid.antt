@@ -15,15 +15,15 @@ use Rattle.ms_record.specs.Settings.{genesis_plan, origin_of}
 abbrev pub votes_of_logs : (ℕ → List LogEvent) → ℕ → List Record
 votes_of_logs logs s = votes_in (logs s)
 
--- the plan in force behind the members and the entry
-abbrev pub plan_behind : Setting → List Entry → Entry → PlanView
-plan_behind setting members e = plan_after (plan_in (genesis_plan setting) members) e.plan
+-- the plan by which an entry behind the members is judged: its own, or else the one in force there
+abbrev pub judging_plan : Setting → List Entry → Entry → PlanView
+judging_plan setting members e = plan_after (plan_in (genesis_plan setting) members) e.plan
 
--- the entry links on to a linked list that ends before this position, and its version is placed under the plan in force
--- behind that list and the entry
+-- the entry links on to a linked list that ends before this position, and its version is placed under the plan by which it
+-- is judged there
 pub record IsValid (setting : Setting) (logs : ℕ → List LogEvent) (position : ℕ) (e : Entry) : Type 0 where
   pub next : IsNext (votes_of_logs logs) (origin_of setting) position e
-  pub placed : IsPlaced logs (plan_behind setting next.members e) e.version
+  pub placed : IsPlaced logs (judging_plan setting next.members e) e.version
 
 -- a floor is at most 1, or a linked list has a plan of at least that generation
 abbrev pub IsBacked : Setting → (ℕ → List LogEvent) → ℕ → Type 0

@@ -4,7 +4,7 @@ use Rattle.sha2.specs.Sha256.{sha256}
 use Rattle.ms_base.specs.declared.names.ClientId.{ClientId}
 use Rattle.ms_base.specs.declared.names.Name.{Name}
 use Rattle.ms_core.specs.Placing.{PlacedBy}
-use Rattle.ms_core.specs.Valid.{IsValid, IsBacked, plan_behind, votes_of_logs}
+use Rattle.ms_core.specs.Valid.{IsValid, IsBacked, judging_plan, votes_of_logs}
 use Rattle.ms_ken.specs.Lists.{list_at}
 use Rattle.ms_object.specs.declared.format.Format.{Format}
 use Rattle.ms_object.specs.declared.object.Object.{Object}
@@ -79,12 +79,12 @@ StaysWhole logs plan version = WholeBy (λ s name. Stands (logs s) plan.generati
 -- a valid entry whose version is whole under the plan in force behind it
 pub record IsWholeMaster (setting : Setting) (logs : ℕ → List LogEvent) (position : ℕ) (e : Entry) : Type 0 where
   pub valid : IsValid setting logs position e
-  pub whole : IsWhole logs (plan_behind setting valid.next.members e) e.version
+  pub whole : IsWhole logs (judging_plan setting valid.next.members e) e.version
 
 -- the entry links on to the members, and its version is whole under the plan in force behind them and it
 pub record IsNextMaster (setting : Setting) (logs : ℕ → List LogEvent) (members : List Entry) (e : Entry) : Type 0 where
   pub links : LinksBehind (origin_of setting) members e
-  pub whole : IsWhole logs (plan_behind setting members e) e.version
+  pub whole : IsWhole logs (judging_plan setting members e) e.version
 
 -- an Accept that a text of a vote list spells was offered
 abbrev pub SupportsVote : (ℕ → List Record) → List ℕ → Type 0
@@ -118,7 +118,7 @@ MayDeclare setting logs client before (Prepare k b) = ⊥
 -- what supports an offer: it may be declared, and its version is whole
 pub record SupportsOffer (setting : Setting) (logs : ℕ → List LogEvent) (client : ℕ) (before : List Record) (position : ℕ) (ballot : Ballot) (entry : Entry) : Type 0 where
   pub declared : IsDeclared setting logs client before position ballot entry
-  pub whole : IsWhole logs (plan_behind setting declared.valid.next.members entry) entry.version
+  pub whole : IsWhole logs (judging_plan setting declared.valid.next.members entry) entry.version
 
 abbrev pub SupportsOwn : Setting → View → ℕ → List Item → Item → Type 0
 SupportsOwn setting view client before (Offer (Accept k b e)) = SupportsOffer setting (log_in view) client (offers_of_items before) k b e

@@ -3,6 +3,7 @@
 
 pub mod closing;
 pub mod item_law;
+pub mod log_law;
 pub mod view_law;
 pub mod want;
 

@@ -24,7 +24,7 @@ ghost use Rattle.ms_record.specs.Settings.{IsSetting, genesis_plan, origin_of};
 ghost use Rattle.ms_record.specs.Votes.{ChosenBy};
 
 use ms_object::object::one_spelling as objects_have_one;
-use ms_record::law::{masters_agree, one_chain};
+use ms_record::law::{chain_laws, one_chain};
 use ms_record::record::one_spelling;
 
 /// For every closed view that tells a setting, which is what every pass of such a board has (`Pass::recall`).
@@ -54,9 +54,7 @@ pub fn told_views()
         → IsLinked (votes_told one) (origin_of setting) c
         → IsLinked (votes_told other) (origin_of setting) d → Begins c d ⊎ Begins d c }
 {
-    masters_agree();
-    one_chain();
-    one_spelling();
+    chain_laws();
 }
 
 /// What each item of such a view rests on: what has no support is in no view.
@@ -106,9 +104,7 @@ pub fn linked_lists()
     ensures voters { (view : View) (setting : Setting) (c : List Entry) (service : ℕ) → Tells view setting → IsLinked (votes_told view) (origin_of setting) c
         → Contains (voters_behind (origin_of setting) c) service → service < setting.services }
 {
-    masters_agree();
-    one_chain();
-    one_spelling();
+    chain_laws();
 }
 
 /// Of every closed view that tells a setting: no floor is above the generation in force at the chain's end; and neither
@@ -125,9 +121,7 @@ pub fn floors_told()
     ensures begins { (votes : ℕ → List Record) (setting : Setting) (a c : List Entry) → IsLinked votes (origin_of setting) c → Begins a c
         → generation_in (genesis_plan setting) a ≤ generation_in (genesis_plan setting) c }
 {
-    masters_agree();
-    one_chain();
-    one_spelling();
+    chain_laws();
 }
 
 /// Of every closed view that tells a setting: what comes next behind a linked list.
@@ -146,9 +140,7 @@ pub fn next_behind()
         → JustifiedBy (votes_told view) (voters_behind (origin_of setting) c) (length c + 1) b e → IsNextMaster setting (log_in view) c e
         → SupportsOffer setting (log_in view) client before (length c + 1) b e }
 {
-    masters_agree();
-    one_chain();
-    one_spelling();
+    chain_laws();
 }
 
 /// While fewer services of the plan than its replicas lose what they had, each object of a version that is whole by puts

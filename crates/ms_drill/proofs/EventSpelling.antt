@@ -4,10 +4,11 @@ use Rattle.std.specs.Prelude.{bytes_eq, codes, ◌==◌}
 use Rattle.std.specs.Cmp.Lexicographic.{same_text}
 use Rattle.std.specs.Fmt.{decimal}
 use Rattle.std.specs.List.{list_all, slice_split}
-use Rattle.std.specs.Option.{option_map}
+use Rattle.std.specs.Option.{option_map, option_or}
 use Rattle.std.proofs.lemmas.Bool.{cases_Bool}
 use Rattle.std.proofs.lemmas.List.{append-nil}
-use Rattle.ms_base.specs.Options.{◌>>=◌}
+use Rattle.ms_base.specs.Places.{some_same}
+use Rattle.ms_base.specs.Options.{◌>>=◌, bind_some, both}
 use Rattle.ms_base.specs.declared.names.Name.{Name}
 use Rattle.ms_world.specs.declared.event.Event.{Event}
 use Rattle.ms_world.specs.declared.event.Event.TheVariants as events
@@ -17,7 +18,7 @@ use Rattle.ms_record.specs.Plans.{IsPlan, PlanView, plan_of}
 use Rattle.ms_record.specs.PlanTests.{AreCapacities, plan_if}
 use Rattle.ms_record.specs.Settings.{even_row}
 use Rattle.ms_text.specs.Words.{HasNoSpace, WordsAreJoined, hex_at, name_at, number_at, spaced, two_words}
-use Rattle.ms_drill.specs.Lines.{bid_at, client_event, client_of, deliver_at, drop_at, event_at, learn_at, migrate_at, offer_at, or_else, other_event, place_at, plan_at, push_at, read_at, rows_at, rows_on, service_of, start_at, stop_at, turn_at, u32_at, u32_then, u64_at, want_at}
+use Rattle.ms_drill.specs.Lines.{bid_at, client_event, client_of, deliver_at, drop_at, event_at, learn_at, migrate_at, offer_at, other_event, place_at, plan_at, push_at, read_at, rows_at, rows_on, service_of, start_at, stop_at, turn_at, u32_at, u32_then, u64_at, want_at}
 use Rattle.ms_drill.specs.Spelling.{EndsWithBytes, EndsWithName, EndsWithPlan, IsU32, IsU64, SpellsEvent, SpellsWant}
 
 -- what is known of words and of plans
@@ -29,32 +30,20 @@ pub record WordLaws : Type 0 where
   pub passed : (p q : PlanView) → p.unit < 2 ^ 64 → AreCapacities p.rows → plan_if p ≡ Some q → (p ≡ q) × IsPlan p
   pub passes : (p : PlanView) → IsPlan p → plan_if p ≡ Some p
 
-same_some : {A : Type 0} (x y : A) → Some x ≡ Some y → x ≡ y
-same_some x y e = cc
-
-bind_some : {A B : Type 0} (o : Option A) (f : A → Option B) (y : B) → (o >>= f) ≡ Some y → (x : A) × (o ≡ Some x) × (f x ≡ Some y)
-bind_some None f y h = absurd cc
-bind_some (Some x) f y h = (x, refl, h)
-
 map_some : {A B : Type 0} (f : A → B) (o : Option A) (y : B) → option_map f o ≡ Some y → (x : A) × (o ≡ Some x) × (f x ≡ y)
 map_some f None y h = absurd cc
-map_some f (Some x) y h = (x, refl, same_some (f x) y h)
+map_some f (Some x) y h = (x, refl, some_same (f x) y h)
 
 cond_cases : {A : Type 0} (b : Bool) (x y : Option A) (e : A) → cond b x y ≡ Some e → ((b ≡ true) × (x ≡ Some e)) ⊎ (y ≡ Some e)
 cond_cases true x y e h = inl (refl, h)
 cond_cases false x y e h = inr h
 
-or_cases : (a b : Option Event) (e : Event) → or_else a b ≡ Some e → (a ≡ Some e) ⊎ (b ≡ Some e)
+or_cases : (a b : Option Event) (e : Event) → option_or a b ≡ Some e → (a ≡ Some e) ⊎ (b ≡ Some e)
 or_cases None b e h = inr h
 or_cases (Some x) b e h = inl h
 
 abbrev is_no_space : ℕ → Bool
 is_no_space b = not (b == 32)
-
-both : (a b : Bool) → (a && b) ≡ true → (a ≡ true) × (b ≡ true)
-both true true h = (refl, refl)
-both true false h = absurd cc
-both false b h = absurd cc
 
 clear : (text : List ℕ) → list_all is_no_space text ≡ true → HasNoSpace text
 clear [] h i l e = absurd (omega arith)
@@ -70,7 +59,7 @@ in_front word text rest e = ap (λ (x : List ℕ). word ++ 32 ∷ x) e
 
 even_capacities : (services : List ℕ) (i : ℕ) (row : PlanRow) → slice_get (map even_row services) i ≡ Some row → row.capacity < 2 ^ 64
 even_capacities [] i row h = absurd (let q : None ≡ Some row = h in cc)
-even_capacities (s ∷ services) zero row h = omega (arith, ap (λ (r : PlanRow). r.capacity) (same_some (even_row s) row h))
+even_capacities (s ∷ services) zero row h = omega (arith, ap (λ (r : PlanRow). r.capacity) (some_same (even_row s) row h))
 even_capacities (s ∷ services) (suc i) row h = even_capacities services i row h
 
 module _ (laws : WordLaws) where
@@ -86,7 +75,7 @@ module _ (laws : WordLaws) where
       let w = bind_some (two_words text) _ x h in
       let n = bind_some (u32_at w.0.0) _ x w.2 in
       let r = u32_is w.0.0 n.0 n.1 in
-      subst (λ (y : ℕ × List ℕ). IsU32 y.0 × (text ≡ decimal y.0 ++ 32 ∷ y.1)) (same_some (n.0, w.0.1) x n.2)
+      subst (λ (y : ℕ × List ℕ). IsU32 y.0 × (text ≡ decimal y.0 ++ 32 ∷ y.1)) (some_same (n.0, w.0.1) x n.2)
       (r.0, (laws.words.parted text w.0.0 w.0.1 w.1).0 ∙ ap (λ (y : List ℕ). y ++ 32 ∷ w.0.1) r.1)
 
   -- ---- what is read is spelled
@@ -126,14 +115,14 @@ module _ (laws : WordLaws) where
       → SpellsWant line (codes "bid" ∷ decimal client ∷ decimal round ∷ []) want
   unfolding want_at push_at
   want_is line text client round want at h = elim (cond_cases (bytes_eq text (codes "-")) (Some None) (push_at text) want h) [
-    | inl none ↦ subst (λ (o : Option Push). SpellsWant line (codes "bid" ∷ decimal client ∷ decimal round ∷ []) o) (same_some None want none.1)
+    | inl none ↦ subst (λ (o : Option Push). SpellsWant line (codes "bid" ∷ decimal client ∷ decimal round ∷ []) o) (some_same None want none.1)
         (at ∙ ap (λ (x : List ℕ). spaced (codes "bid" ∷ decimal client ∷ decimal round ∷ x ∷ [])) (same_text text (codes "-") (sym none.0)))
     | inr some ↦
         let n = bind_some (u32_then text) _ want some in
         let v = bind_some (name_at n.0.1) _ want n.2 in
         let number = then_is text n.0 n.1 in
         subst (λ (o : Option Push). SpellsWant line (codes "bid" ∷ decimal client ∷ decimal round ∷ []) o)
-        (same_some (Some (let p : Push = record { number = n.0.0; version = record { 0 = v.0 } } in p)) want v.2)
+        (some_same (Some (let p : Push = record { number = n.0.0; version = record { 0 = v.0 } } in p)) want v.2)
         (number.0, record { digits = n.0.1; name_is = v.1; words = at ∙ ap (λ (x : List ℕ). spaced (codes "bid" ∷ decimal client ∷ decimal round ∷ x ∷ [])) number.1 })
   ]
 
@@ -147,7 +136,7 @@ module _ (laws : WordLaws) where
       let round = then_is c.0.1 r.0 r.1 in
       let words : line ≡ spaced (codes "bid" ∷ decimal c.0.0 ∷ decimal r.0.0 ∷ r.0.1 ∷ []) =
       at ∙ in_front (codes "bid") text (decimal c.0.0 ++ 32 ∷ (decimal r.0.0 ++ 32 ∷ r.0.1)) (client.1 ∙ in_front (decimal c.0.0) c.0.1 (decimal r.0.0 ++ 32 ∷ r.0.1) round.1) in
-      subst (λ (e : Event). SpellsEvent line e) (same_some (events.Bid (client_of c.0.0) r.0.0 w.0) event w.2) (client.0, round.0, want_is line r.0.1 c.0.0 r.0.0 w.0 words w.1)
+      subst (λ (e : Event). SpellsEvent line e) (some_same (events.Bid (client_of c.0.0) r.0.0 w.0) event w.2) (client.0, round.0, want_is line r.0.1 c.0.0 r.0.0 w.0 words w.1)
 
   -- three numbers behind a word
   three_is : (line word text : List ℕ) (a b c : ℕ × List ℕ) → line ≡ word ++ 32 ∷ text → u32_then text ≡ Some a → u32_then a.1 ≡ Some b → u32_then b.1 ≡ Some c
@@ -180,7 +169,7 @@ module _ (laws : WordLaws) where
       let v = bind_some (name_at n.0.1) _ event n.2 in
       let t = three_is line (codes "migrate") text c.0 r.0 n.0 at c.1 r.1 n.1 in
       let version : Name = record { 0 = v.0 } in
-      subst (λ (e : Event). SpellsEvent line e) (same_some (events.Migrate (client_of c.0.0) r.0.0 n.0.0 version) event v.2)
+      subst (λ (e : Event). SpellsEvent line e) (some_same (events.Migrate (client_of c.0.0) r.0.0 n.0.0 version) event v.2)
       (t.0, t.1, t.2, record { digits = n.0.1; name_is = v.1; words = t.3 })
 
   read_is : (line text : List ℕ) (event : Event) → line ≡ codes "read" ++ 32 ∷ text → read_at text ≡ Some event → SpellsEvent line event
@@ -191,7 +180,7 @@ module _ (laws : WordLaws) where
       let u = bind_some (u64_at s.0.1) _ event s.2 in
       let t = two_are line (codes "read") text c.0 s.0 at c.1 s.1 in
       let upto = u64_is s.0.1 u.0 u.1 in
-      subst (λ (e : Event). SpellsEvent line e) (same_some (events.Read (client_of c.0.0) (service_of s.0.0) u.0) event u.2)
+      subst (λ (e : Event). SpellsEvent line e) (some_same (events.Read (client_of c.0.0) (service_of s.0.0) u.0) event u.2)
       (t.0, t.1, upto.0, t.2 ∙ ap (λ (x : List ℕ). spaced (codes "read" ∷ decimal c.0.0 ∷ decimal s.0.0 ∷ x ∷ [])) upto.1)
 
   place_is : (line text : List ℕ) (event : Event) → line ≡ codes "place" ++ 32 ∷ text → place_at text ≡ Some event → SpellsEvent line event
@@ -201,7 +190,7 @@ module _ (laws : WordLaws) where
       let g = bind_some (u32_then s.0.1) _ event s.2 in
       let o = bind_some (hex_at g.0.1) _ event g.2 in
       let t = two_are line (codes "place") text s.0 g.0 at s.1 g.1 in
-      subst (λ (e : Event). SpellsEvent line e) (same_some (events.Place (service_of s.0.0) g.0.0 o.0) event o.2)
+      subst (λ (e : Event). SpellsEvent line e) (some_same (events.Place (service_of s.0.0) g.0.0 o.0) event o.2)
       (t.0, t.1, record { digits = g.0.1; text_is = o.1; words = t.2 })
 
   drop_is : (line text : List ℕ) (event : Event) → line ≡ codes "drop" ++ 32 ∷ text → drop_at text ≡ Some event → SpellsEvent line event
@@ -211,11 +200,11 @@ module _ (laws : WordLaws) where
       let f = bind_some (u32_at s.0.1) _ event s.2 in
       let service = then_is text s.0 s.1 in
       let floor = u32_is s.0.1 f.0 f.1 in
-      subst (λ (e : Event). SpellsEvent line e) (same_some (events.DropBelow (service_of s.0.0) f.0) event f.2)
+      subst (λ (e : Event). SpellsEvent line e) (some_same (events.DropBelow (service_of s.0.0) f.0) event f.2)
       (service.0, floor.0, at ∙ in_front (codes "drop") text (decimal s.0.0 ++ 32 ∷ decimal f.0) (service.1 ∙ in_front (decimal s.0.0) s.0.1 (decimal f.0) floor.1))
 
   rows_are : (words : List (List ℕ)) (rows all : List PlanRow) → rows_on rows words ≡ Some all → (services : List ℕ) × (words ≡ map decimal services) × (all ≡ rows ++ map even_row services)
-  rows_are [] rows all h = ([], refl, sym (same_some rows all h) ∙ sym (append-nil rows))
+  rows_are [] rows all h = ([], refl, sym (some_same rows all h) ∙ sym (append-nil rows))
   rows_are (word ∷ words) rows all h =
       let s = bind_some (u32_at word) _ all h in
       let rest = rows_are words (rows ++ even_row s.0 ∷ []) all s.2 in
@@ -242,7 +231,7 @@ module _ (laws : WordLaws) where
       t.3 ∙ ap (λ (x : List ℕ). spaced (codes "turn" ∷ decimal c.0.0 ∷ decimal r.0.0 ∷ decimal n.0.0 ∷ x ∷ [])) (generation.1 ∙ in_front (decimal g.0.0) g.0.1 (decimal m.0.0 ++ 32 ∷ m.0.1) replicas.1) in
       let ends = subst (λ (q : PlanView). EndsWithPlan line (codes "turn" ∷ decimal c.0.0 ∷ decimal r.0.0 ∷ decimal n.0.0 ∷ []) q) given.0
       (record { services = are.0; last = m.0.1; parts = are.1; rows = refl; rules = given.1; words = words }) in
-      subst (λ (e : Event). SpellsEvent line e) (same_some (events.Turn (client_of c.0.0) r.0.0 n.0.0 p.0) event p.2) (t.0, t.1, t.2, ends)
+      subst (λ (e : Event). SpellsEvent line e) (some_same (events.Turn (client_of c.0.0) r.0.0 n.0.0 p.0) event p.2) (t.0, t.1, t.2, ends)
 
   -- the first word is that one
   named : (line word text is : List ℕ) → line ≡ word ++ 32 ∷ text → bytes_eq word is ≡ true → line ≡ is ++ 32 ∷ text
@@ -353,7 +342,7 @@ module _ (laws : WordLaws) where
     where
       get_map : (xs : List ℕ) (i s : ℕ) → slice_get xs i ≡ Some s → slice_get (map even_row xs) i ≡ Some (even_row s)
       get_map [] i s h = absurd (let q : None ≡ Some s = h in cc)
-      get_map (x ∷ xs) zero s h = ap (λ (n : ℕ). Some (even_row n)) (same_some x s h)
+      get_map (x ∷ xs) zero s h = ap (λ (n : ℕ). Some (even_row n)) (some_same x s h)
       get_map (x ∷ xs) (suc i) s h = get_map xs i s h
 
   plan_read : (line : List ℕ) (front : List (List ℕ)) (plan : PlanView) (h : EndsWithPlan line front plan) → plan_at (decimal plan.generation ++ 32 ∷ (decimal plan.replicas ++ 32 ∷ h.last)) ≡ Some plan

@@ -1,6 +1,6 @@
 -- The lines of a drill: its head, and the events.
 use Rattle.std.specs.Prelude.{ℕ, ◌&&◌, ◌==◌, nat_le, bytes_eq, codes, List, [], ◌∷◌, ◌++◌, Option, Some, None, if◌then◌else◌}
-use Rattle.std.specs.Option.{option_map}
+use Rattle.std.specs.Option.{option_map, option_or}
 use Rattle.std.specs.List.{slice_split}
 use Rattle.ms_base.specs.Options.{◌>>=◌}
 use Rattle.ms_base.specs.declared.names.ClientId.{ClientId}
@@ -149,15 +149,11 @@ other_event word text =
     else if bytes_eq word (codes "drop") then drop_at text
     else None
 
-abbrev pub or_else : Option Event → Option Event → Option Event
-or_else None later = later
-or_else (Some event) later = Some event
-
 -- the event of a line
 unfoldable pub event_at : List ℕ → Option Event
 event_at line = do
   words ← two_words line
-  or_else (client_event words.0 words.1) (other_event words.0 words.1)
+  option_or (client_event words.0 words.1) (other_event words.0 words.1)
 
 abbrev pub head_if : ℕ → ℕ → ℕ → Option Head
 head_if services clients replicas =

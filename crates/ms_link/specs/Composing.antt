@@ -10,7 +10,7 @@ use Rattle.ms_ken.specs.Known.{TableId, Known}
 use Rattle.ms_ken.specs.Lists.{list_at, Begins}
 use Rattle.ms_ken.specs.Prefixes.{prefix_length, prefix_get, get_splits}
 use Rattle.ms_ken.specs.Rows.{begins_self, begins_trans, may_follow_later}
-use Rattle.ms_link.specs.Links.{LinkView, IsOnBoard, MayAdd, Stays, Learns, IsAdded, IsAbove, IsStale, IsAbsent, IsKept, log_known, Tells, Puts, Lists, Has, Gets, CountsFailed, PassesOut, Leads, AllLead}
+use Rattle.ms_link.specs.Links.{LinkView, IsOnBoard, MayAdd, Stays, Learns, IsAdded, IsStale, IsAbsent, IsKept, log_known, Tells, Puts, Lists, Has, Gets, CountsFailed, PassesOut, Leads, AllLead}
 use Rattle.ms_link.specs.declared.fault.LinkError.{LinkError}
 use Rattle.ms_link.specs.declared.fault.LinkError.TheVariants as errors
 use Rattle.ms_record.specs.declared.item.Item.{Item}
@@ -19,7 +19,7 @@ use Rattle.ms_record.specs.declared.log.ListId.{ListId}
 use Rattle.ms_record.specs.declared.log.LogEvent.{LogEvent}
 use Rattle.ms_record.specs.declared.log.LogEvent.TheVariants.{Rec, Put, Drop}
 use Rattle.ms_record.specs.Items.{event_in, events_of}
-use Rattle.ms_record.specs.Logs.{texts_in, Stands}
+use Rattle.ms_record.specs.Logs.{texts_in, Stands, NoDropAbove}
 
 -- ---- calls in turn
 
@@ -89,7 +89,7 @@ pub stale_out : (inner outer : LinkView) (after : Known Item) (generation floor 
 stale_out inner outer after generation floor out h = record {
   below = h.below;
   dropped = λ lists. subst (λ log. Contains log (Drop floor)) (log_same inner outer after out) (h.dropped (out.lists lists));
-  greatest = λ lists. subst (λ log. IsAbove log floor) (log_same inner outer after out) (h.greatest (out.lists lists));
+  greatest = λ lists. subst (λ log. NoDropAbove log floor) (log_same inner outer after out) (h.greatest (out.lists lists));
 }
 
 pub tells_out : (inner within outer after : LinkView) (k0 k1 : Known Item) (event : LogEvent) (r : Result Unit LinkError) → PassesOut inner outer → CountsFailed outer after r → Tells inner within k0 k1 event r → Tells outer after k0 k1 event r
@@ -102,7 +102,7 @@ pub puts_out : (inner within outer after : LinkView) (k0 k1 : Known Item) (gener
     → Puts inner within k0 k1 generation event r → Puts outer after k0 k1 generation event r
 puts_out inner within outer after k0 k1 generation event (Ok u) out counts h = (
   λ lists. added_out inner outer k0 k1 event out (h.0 (out.lists lists)),
-  λ lists objects. subst (λ log. IsAbove log generation) (log_same inner outer k1 out) (h.1 (out.lists lists) (out.objects objects)),
+  λ lists objects. subst (λ log. NoDropAbove log generation) (log_same inner outer k1 out) (h.1 (out.lists lists) (out.objects objects)),
 )
 puts_out inner within outer after k0 k1 generation event (Err errors.Failed) out counts h = counts refl
 puts_out inner within outer after k0 k1 generation event (Err (errors.Stale floor)) out counts h = stale_out inner outer k1 generation floor out h

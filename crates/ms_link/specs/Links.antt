@@ -11,7 +11,7 @@ use Rattle.ms_record.specs.declared.item.Item.TheVariants.{Log}
 use Rattle.ms_record.specs.declared.log.LogEvent.{LogEvent}
 use Rattle.ms_record.specs.declared.log.LogEvent.TheVariants.{Put, Drop}
 use Rattle.ms_record.specs.Items.{events_of}
-use Rattle.ms_record.specs.Logs.{texts_in, HasPut, Stands}
+use Rattle.ms_record.specs.Logs.{texts_in, HasPut, Stands, NoDropAbove}
 
 -- a link: the board that it tells on, the service's number there, its count of faults; whether its events are items of the
 -- board, and whether `has` and `get` answer by them
@@ -60,24 +60,20 @@ pub record IsAdded (link : LinkView) (old new : Known Item) (event : LogEvent) :
   pub behind : length (list_at old.lists link.service) ≤ place
   pub stands : slice_get (list_at new.lists link.service) place ≡ Some (Log event)
 
--- no drop of the log is above the generation
-abbrev pub IsAbove : List LogEvent → ℕ → Type 0
-IsAbove log generation = (floor : ℕ) → Contains log (Drop floor) → floor ≤ generation
-
 -- the greatest floor that was dropped is above the generation
 pub record IsStale (link : LinkView) (pass : Known Item) (generation floor : ℕ) : Type 0 where
   pub below : generation < floor
   pub dropped : WhereListed link (Contains (log_known link pass) (Drop floor))
-  pub greatest : WhereListed link (IsAbove (log_known link pass) floor)
+  pub greatest : WhereListed link (NoDropAbove (log_known link pass) floor)
 
 -- no drop is above the generation, and no text was put under the name in it
 pub record IsAbsent (log : List LogEvent) (generation : ℕ) (name : Name) : Type 0 where
-  pub above : IsAbove log generation
+  pub above : NoDropAbove log generation
   pub none : HasPut log generation name → ⊥
 
 -- no drop is above the generation, and this text was put under the name in it
 pub record IsKept (log : List LogEvent) (generation : ℕ) (name : Name) (text : List ℕ) : Type 0 where
-  pub above : IsAbove log generation
+  pub above : NoDropAbove log generation
   pub put : Contains log (Put generation name text)
 
 -- an append or a drop
@@ -89,7 +85,7 @@ Tells link after old new event (Err errors.NoMemory) = Unit {0}
 
 -- a put in this generation
 abbrev pub Puts : LinkView → LinkView → Known Item → Known Item → ℕ → LogEvent → Result Unit LinkError → Type 0
-Puts link after old new generation event (Ok _) = WhereListed link (IsAdded link old new event) × WhereKept link (IsAbove (log_known link new) generation)
+Puts link after old new generation event (Ok _) = WhereListed link (IsAdded link old new event) × WhereKept link (NoDropAbove (log_known link new) generation)
 Puts link after old new generation event (Err errors.Failed) = Rose link.faults after.faults
 Puts link after old new generation event (Err (errors.Stale floor)) = IsStale link new generation floor
 Puts link after old new generation event (Err errors.NoMemory) = Unit {0}

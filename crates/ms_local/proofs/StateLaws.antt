@@ -3,32 +3,18 @@ use Rattle.std.proofs.Common.{◌≡◌, ℕ, suc, Bool, true, false, List, [], 
 use Rattle.std.specs.Prelude.{IfSome, ◌==◌, if◌then◌else◌}
 use Rattle.std.specs.Int.{w32, to_be_bytes}
 use Rattle.std.proofs.lemmas.Bool.{eqb-true}
-use Rattle.ms_base.specs.Options.{◌>>=◌}
+use Rattle.ms_base.specs.Places.{some_same}
+use Rattle.ms_base.specs.Options.{◌>>=◌, bind_some}
 use Rattle.ms_base.specs.declared.limits.TheConstants.{LAST_NUMBER}
 use Rattle.ms_base.specs.declared.names.Name.{Name}
 use Rattle.ms_base.specs.Fields.{IsBytes, byte_at, number_within, name_at, at_end}
-use Rattle.ms_base.specs.FieldLaws.{Takes, FieldsRead, FieldsSpelled}
+use Rattle.ms_base.specs.FieldLaws.{Takes, FieldsRead, FieldsSpelled, ended, IsBytes-rest, Takes-then}
 use Rattle.ms_local.specs.declared.kept.Base.{Base}
 use Rattle.ms_local.specs.declared.kept.Todo.{Todo}
 use Rattle.ms_local.specs.declared.kept.Kept.{Kept}
 use Rattle.ms_local.specs.States.{IsBase, IsTodo, IsState, base_text, todo_text, todo_part, kept_text, base_at, todo_at, todo_in, state_at, kept_at}
 
 -- ---- steps
-
--- the value of a step that gave one
-bind_some : {A B : Type 0} (o : Option A) (f : A → Option B) (y : B) → (o >>= f) ≡ Some y → (x : A) × (o ≡ Some x) × (f x ≡ Some y)
-bind_some (Some x) f y e = (x, refl, e)
-bind_some None f y e = absurd cc
-
-abbrev given : {A : Type 0} → A → Option A
-given x = Some x
-
-some_is : {A : Type 0} (x y : A) → given x ≡ given y → x ≡ y
-some_is x y e = cc
-
-ended : {A : Type 0} (x : A × List ℕ) (y : A) → at_end x ≡ Some y → (x.0 ≡ y) × (x.1 ≡ [])
-ended (a, []) y e = (some_is a y e, refl)
-ended (a, b ∷ rest) y e = absurd cc
 
 -- a choice that gave a value gave it in one of its cases
 either_some : {A : Type 0} (b c : Bool) (o p : Option A) (y : A) → (if b then o else if c then p else None) ≡ Some y → ((b ≡ true) × (o ≡ Some y)) ⊎ ((c ≡ true) × (p ≡ Some y))
@@ -39,12 +25,6 @@ either_some false false o p y e = absurd cc
 when_some : {A : Type 0} (b : Bool) (o : Option A) (y : A) → (if b then o else None) ≡ Some y → (b ≡ true) × (o ≡ Some y)
 when_some true o y e = (refl, e)
 when_some false o y e = absurd cc
-
-IsBytes-rest : (b : ℕ) (text : List ℕ) → IsBytes (b ∷ text) → IsBytes text
-IsBytes-rest b text h i = h (suc i)
-
-Takes-then : (a x b y c : List ℕ) → Takes a x b → Takes b y c → Takes a (x ++ y) c
-Takes-then a x b y c p q = record { parts = p.parts ∙ ap (λ (t : List ℕ). x ++ t) q.parts ∙ sym (append_assoc x y c); bytes = q.bytes }
 
 -- ---- bases
 
@@ -62,7 +42,7 @@ base_takes law text x fits e =
     let t2 = law.name n.0.1 v.0 t1.0.bytes v.1 in
     let made : Base × List ℕ = (base_of p.0.0 n.0.0 v.0.0, v.0.1) in
     let front = Takes-then text (to_be_bytes w32 p.0.0) p.0.1 n.0.0.0 n.0.1 t0.0 t1.0 in
-    subst (λ (y : Base × List ℕ). Takes text (base_text y.0) y.1 × IsBase y.0) (some_is made x v.2)
+    subst (λ (y : Base × List ℕ). Takes text (base_text y.0) y.1 × IsBase y.0) (some_same made x v.2)
     (Takes-then text (to_be_bytes w32 p.0.0 ++ n.0.0.0) n.0.1 v.0.0.0 v.0.1 front t2.0, record { position = t0.2; entry = t1.1; version = t2.1 })
 
 base_again : FieldsRead → (base : Base) (rest : List ℕ) → IsBase base → base_at (base_text base ++ rest) ≡ Some (base, rest)
@@ -89,7 +69,7 @@ todo_takes law text x fits e =
     let t2 = law.name n.0.1 v.0 t1.0.bytes v.1 in
     let made : Todo × List ℕ = (todo_of p.0.0 n.0.0 v.0.0, v.0.1) in
     let front = Takes-then text (base_text p.0.0) p.0.1 n.0.0.0 n.0.1 t0.0 t1.0 in
-    subst (λ (y : Todo × List ℕ). Takes text (todo_text y.0) y.1 × IsTodo y.0) (some_is made x v.2)
+    subst (λ (y : Todo × List ℕ). Takes text (todo_text y.0) y.1 × IsTodo y.0) (some_same made x v.2)
     (Takes-then text (base_text p.0.0 ++ n.0.0.0) n.0.1 v.0.0.0 v.0.1 front t2.0, record { target = t0.1; before = t1.1; after = t2.1 })
 
 todo_again : FieldsRead → (todo : Todo) (rest : List ℕ) → IsTodo todo → todo_at (todo_text todo ++ rest) ≡ Some (todo, rest)
@@ -159,7 +139,7 @@ state_is_read law text kept fits e =
     let e3 = Takes-then text (one ++ two ++ base_text b.0.0) b.0.1 h.0.0.0 h.0.1 e2 t3.0 in
     let last : h.0.1 ≡ todo_part t.0 = t4.parts ∙ says.spelled in
     let spelled : text ≡ body_text (kept_of r.0.0 n.0.0 b.0.0 h.0.0 t.0) = e3.parts ∙ ap (λ (x : List ℕ). (one ++ two ++ base_text b.0.0 ++ h.0.0.0) ++ x) last in
-    subst (λ (y : Kept). IsState y × (text ≡ body_text y)) (some_is (kept_of r.0.0 n.0.0 b.0.0 h.0.0 t.0) kept t.2)
+    subst (λ (y : Kept). IsState y × (text ≡ body_text y)) (some_same (kept_of r.0.0 n.0.0 b.0.0 h.0.0 t.0) kept t.2)
     (record { round = t0.2; number = t1.2; base = t2.1; head = t3.1; todo = says.ranges }, spelled)
 
 -- the tag stands before the rest
@@ -212,7 +192,7 @@ kept_is_read_again law kept h = ap kept_at (tagged kept) ∙ state_again law kep
 
 pub one_text : FieldsRead → (kept other : Kept) → IsState kept → IsState other → kept_text kept ≡ kept_text other → kept ≡ other
 one_text law kept other h k same =
-    some_is kept other (sym (kept_is_read_again law kept h) ∙ ap kept_at same ∙ kept_is_read_again law other k)
+    some_same kept other (sym (kept_is_read_again law kept h) ∙ ap kept_at same ∙ kept_is_read_again law other k)
 
 -- what the law says of a text that is read, said of what was read
 pub kept_is_found_by : ((text : List ℕ) (kept : Kept) → IsBytes text → kept_at text ≡ Some kept → IsState kept × (text ≡ kept_text kept))

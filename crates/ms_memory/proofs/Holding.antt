@@ -4,7 +4,7 @@ use Rattle.std.proofs.lemmas.Bool.Decides.{nat_tests}
 use Rattle.std.proofs.lemmas.List.Elements.{Contains-append_left, Contains-append_right, Contains-push_cases}
 use Rattle.std.specs.Prelude.{◌==◌, if◌then◌else◌, unwrap_or}
 use Rattle.ms_base.specs.declared.names.Name.{Name}
-use Rattle.ms_core.specs.Floors.{IsFloor}
+use Rattle.ms_record.specs.Floors.{IsFloor}
 use Rattle.ms_link.specs.Composing.{texts_in-append}
 use Rattle.ms_memory.specs.Shelves.{IsFirstPut}
 use Rattle.ms_record.specs.declared.log.ListId.{ListId}

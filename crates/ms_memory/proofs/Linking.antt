@@ -3,12 +3,12 @@ use Rattle.std.proofs.Common.{◌≡◌, ℕ, ◌<◌, ◌≤◌, Bool, true, fa
 use Rattle.std.proofs.lemmas.List.Elements.{Contains-push_cases}
 use Rattle.std.specs.Prelude.{IsTrue, ◌↔◌, Result, Ok, Err}
 use Rattle.ms_base.specs.declared.names.Name.{Name}
-use Rattle.ms_core.specs.Floors.{IsFloor}
+use Rattle.ms_record.specs.Floors.{IsFloor}
 use Rattle.ms_core.specs.Views.{log_in}
 use Rattle.ms_ken.specs.Known.{Known}
 use Rattle.ms_ken.specs.Lists.{list_at}
 use Rattle.ms_ken.specs.Prefixes.{get_last, prefix_length}
-use Rattle.ms_link.specs.Links.{LinkView, IsAdded, IsAbove, IsStale, Tells, Puts, Has, Gets, log_known}
+use Rattle.ms_link.specs.Links.{LinkView, IsAdded, IsStale, Tells, Puts, Has, Gets, log_known}
 use Rattle.ms_link.specs.declared.fault.LinkError.{LinkError}
 use Rattle.ms_link.specs.declared.fault.LinkError.TheVariants as errors
 use Rattle.ms_memory.proofs.Holding.{first_has}
@@ -21,7 +21,7 @@ use Rattle.ms_record.specs.declared.log.ListId.{ListId}
 use Rattle.ms_record.specs.declared.log.LogEvent.{LogEvent}
 use Rattle.ms_record.specs.declared.log.LogEvent.TheVariants.{Rec, Put, Drop}
 use Rattle.ms_record.specs.Items.{events_of}
-use Rattle.ms_record.specs.Logs.{HasPut}
+use Rattle.ms_record.specs.Logs.{HasPut, NoDropAbove}
 
 -- the event stands in the service's list
 added : (link : LinkView) (state : Served) (old new : Known Item) (event : LogEvent) → state.service ≡ link.service → LearnsEvent state old new event → IsAdded link old new event
@@ -40,10 +40,10 @@ pub stale_says : (link : LinkView) (new : Known Item) (log : List LogEvent) (gen
 stale_says link new log generation floor lt h is = record {
   below = lt;
   dropped = λ _. subst (λ l. Contains l (Drop floor)) (sym is) (elim h.there [ inl none ↦ absurd (omega arith) | inr there ↦ there ]);
-  greatest = λ _. subst (λ l. IsAbove l floor) (sym is) h.greatest;
+  greatest = λ _. subst (λ l. NoDropAbove l floor) (sym is) h.greatest;
 }
 
-put_above : (log : List LogEvent) (generation g : ℕ) (name : Name) (text : List ℕ) → IsAbove log generation → IsAbove (log ++ Put g name text ∷ []) generation
+put_above : (log : List LogEvent) (generation g : ℕ) (name : Name) (text : List ℕ) → NoDropAbove log generation → NoDropAbove (log ++ Put g name text ∷ []) generation
 put_above log generation g name text above floor there = elim (Contains-push_cases log (Put g name text) (Drop floor) there) [ inl old ↦ above floor old | inr new ↦ absurd (cc new) ]
 
 pub append_tells : (link after : LinkView) (old new : Known Item) (list : ListId) (text : List ℕ) (answer : Result Unit LinkError) → Changes link.service old new (Rec list text) answer
@@ -65,23 +65,23 @@ pub put_puts : (link after : LinkView) (old new : Known Item) (generation : ℕ)
 put_puts link after old new generation name text (Ok u) h =
     let event = Put generation name text in (
       λ _. added link h.state old new event h.number h.adds.2,
-      λ _ _. subst (λ l. IsAbove l generation) (sym (log_then link h.state old new event h.number h.adds.2)) (put_above h.state.log generation generation name text h.adds.0),
+      λ _ _. subst (λ l. NoDropAbove l generation) (sym (log_then link h.state old new event h.number h.adds.2)) (put_above h.state.log generation generation name text h.adds.0),
     )
 put_puts link after old new generation name text (Err errors.Failed) h = absurd h.adds
 put_puts link after old new generation name text (Err (errors.Stale floor)) h =
     stale_says link new h.state.log generation floor h.adds.0.0 h.adds.0.1 (ap (λ (s : ℕ). log_in new.lists s) (sym h.number) ∙ h.adds.2)
 put_puts link after old new generation name text (Err errors.NoMemory) h = tt
 
-pub has_says : (link after : LinkView) (new : Known Item) (log : List LogEvent) (generation : ℕ) (name : Name) (kept : Bool) → log_known link new ≡ log → IsAbove log generation
+pub has_says : (link after : LinkView) (new : Known Item) (log : List LogEvent) (generation : ℕ) (name : Name) (kept : Bool) → log_known link new ≡ log → NoDropAbove log generation
     → IsTrue kept ↔ HasPut log generation name → Has link after new generation name (Ok kept)
 has_says link after new log generation name true is above h =
-    λ _. record { put = subst (λ l. HasPut l generation name) (sym is) (h.0 refl); kept = subst (λ l. IsAbove l generation) (sym is) above }
+    λ _. record { put = subst (λ l. HasPut l generation name) (sym is) (h.0 refl); kept = subst (λ l. NoDropAbove l generation) (sym is) above }
 has_says link after new log generation name false is above h =
-    λ _ _. record { above = subst (λ l. IsAbove l generation) (sym is) above; none = λ has. let no : IsTrue false = h.1 (subst (λ l. HasPut l generation name) is has) in cc no }
+    λ _ _. record { above = subst (λ l. NoDropAbove l generation) (sym is) above; none = λ has. let no : IsTrue false = h.1 (subst (λ l. HasPut l generation name) is has) in cc no }
 
-pub gets_says : (link after : LinkView) (new : Known Item) (log : List LogEvent) (generation : ℕ) (name : Name) (found : Option (List ℕ)) → log_known link new ≡ log → IsAbove log generation
+pub gets_says : (link after : LinkView) (new : Known Item) (log : List LogEvent) (generation : ℕ) (name : Name) (found : Option (List ℕ)) → log_known link new ≡ log → NoDropAbove log generation
     → IsFirstPut log generation name found → Gets link after new generation name (Ok found)
 gets_says link after new log generation name None is above h =
-    λ _ _. record { above = subst (λ l. IsAbove l generation) (sym is) above; none = λ has. h (subst (λ l. HasPut l generation name) is has) }
+    λ _ _. record { above = subst (λ l. NoDropAbove l generation) (sym is) above; none = λ has. h (subst (λ l. HasPut l generation name) is has) }
 gets_says link after new log generation name (Some text) is above h =
-    λ _ _. record { above = subst (λ l. IsAbove l generation) (sym is) above; put = subst (λ l. Contains l (Put generation name text)) (sym is) (first_has log generation name text h) }
+    λ _ _. record { above = subst (λ l. NoDropAbove l generation) (sym is) above; put = subst (λ l. Contains l (Put generation name text)) (sym is) (first_has log generation name text h) }

@@ -4,13 +4,12 @@ use Rattle.std.proofs.lemmas.List.Elements.{filter_map-append}
 use Rattle.std.specs.Prelude.{IfSome, IsTrue, ◌↔◌, is_some}
 use mathlib.Core.List.{IsPrefix}
 use Rattle.ms_base.specs.declared.names.Name.{Name}
-use Rattle.ms_core.specs.Floors.{IsFloor}
+use Rattle.ms_record.specs.Floors.{IsFloor}
 use Rattle.ms_core.specs.Views.{View, configuration, log_in}
 use Rattle.ms_ken.specs.Known.{TableId, Known}
 use Rattle.ms_ken.specs.Lists.{list_at, Begins, MayFollow, longer_lists, with_told}
 use Rattle.ms_ken.specs.Prefixes.{longer_of_prefix, prefix_length}
 use Rattle.ms_ken.specs.Rows.{begins_told, begins_trans, item_here, list_at-longer_lists}
-use Rattle.ms_link.specs.Links.{IsAbove}
 use Rattle.ms_memory.proofs.Holding.{first_has}
 use Rattle.ms_memory.specs.Served.{Agrees, IsTakenBy, LearnsEvent, served}
 use Rattle.ms_memory.specs.Shelves.{Holds, IsFirstPut, IsOpenTo}
@@ -20,7 +19,7 @@ use Rattle.ms_record.specs.declared.item.Item.TheVariants.{Log}
 use Rattle.ms_record.specs.declared.log.LogEvent.{LogEvent}
 use Rattle.ms_record.specs.declared.log.LogEvent.TheVariants.{Rec, Put, Drop}
 use Rattle.ms_record.specs.Items.{event_in, events_of}
-use Rattle.ms_record.specs.Logs.{HasPut}
+use Rattle.ms_record.specs.Logs.{HasPut, NoDropAbove}
 
 pub owned : (P : ℕ → Type 0) (word : Option ℕ) (service : ℕ) → word ≡ Some service → IfSome word P → P service
 owned P word service is h = subst (λ (w : Option ℕ). IfSome w P) is h
@@ -94,15 +93,9 @@ learns_event service old one caller new lists event word own wide within begins 
 
 -- ---- the floor and the generations
 
-pub above_floor : (log : List LogEvent) (floor generation : ℕ) → IsFloor log floor → IsAbove log generation → floor ≤ generation
-above_floor log floor generation h above = elim h.there [ inl none ↦ omega arith | inr there ↦ above floor there ]
-
-pub is_above : (log : List LogEvent) (floor generation : ℕ) → IsFloor log floor → floor ≤ generation → IsAbove log generation
-is_above log floor generation h le other there = let low = h.greatest other there in omega arith
-
 pub taken_by : (log : List LogEvent) (floor : ℕ) (event : LogEvent) → IsFloor log floor → IsOpenTo floor event → IsTakenBy log event
 taken_by log floor (Rec list text) h open_ = tt
-taken_by log floor (Put generation name text) h open_ = is_above log floor generation h open_
+taken_by log floor (Put generation name text) h open_ = none_above log floor generation h open_
 taken_by log floor (Drop below) h open_ = tt
 
 pub none_put : (log : List LogEvent) (generation : ℕ) (name : Name) (found : Option (List ℕ)) → IsFirstPut log generation name found → found ≡ None → HasPut log generation name → ⊥

@@ -1,11 +1,10 @@
 -- What contracts see of a service behind a lock, and what a change of it leaves.
 use Rattle.std.specs.Prelude.{◌≡◌, ℕ, ◌<◌, List, [], ◌∷◌, ◌++◌, length, Some, Result, Ok, Err}
 use mathlib.Core.List.{IsPrefix}
-use Rattle.ms_core.specs.Floors.{IsFloor}
+use Rattle.ms_record.specs.Floors.{IsFloor}
 use Rattle.ms_core.specs.Views.{configuration, log_in}
 use Rattle.ms_ken.specs.Known.{TableId, Known}
 use Rattle.ms_ken.specs.Lists.{list_at}
-use Rattle.ms_link.specs.Links.{IsAbove}
 use Rattle.ms_link.specs.declared.fault.LinkError.{LinkError}
 use Rattle.ms_link.specs.declared.fault.LinkError.TheVariants as errors
 use Rattle.ms_memory.specs.Shelves.{Holds}
@@ -15,6 +14,7 @@ use Rattle.ms_record.specs.declared.item.Item.TheVariants.{Log}
 use Rattle.ms_record.specs.declared.log.LogEvent.{LogEvent}
 use Rattle.ms_record.specs.declared.log.LogEvent.TheVariants.{Rec, Put, Drop}
 use Rattle.ms_record.specs.Items.{events_of}
+use Rattle.ms_record.specs.Logs.{NoDropAbove}
 
 -- its number on the board, and its log
 pub record Served : Type 0 where
@@ -46,7 +46,7 @@ pub record LearnsEvent (state : Served) (old new : Known Item) (event : LogEvent
 -- the log takes the event: it is no put below the greatest floor that was dropped
 abbrev pub IsTakenBy : List LogEvent → LogEvent → Type 0
 IsTakenBy log (Rec list text) = Unit {0}
-IsTakenBy log (Put generation name text) = IsAbove log generation
+IsTakenBy log (Put generation name text) = NoDropAbove log generation
 IsTakenBy log (Drop floor) = Unit {0}
 
 -- it is a put below the greatest floor that was dropped, which is this one

@@ -6,7 +6,7 @@ use Rattle.std.specs.Option.{option_and_then, option_map_or}
 use Rattle.std.specs.Ordering.{nat_cmp, ordering_then}
 use Rattle.std.specs.declared.cmp.Ordering.{Ordering}
 use Rattle.ms_base.specs.declared.names.Name.{Name}
-use Rattle.ms_core.specs.Floors.{IsFloor}
+use Rattle.ms_record.specs.Floors.{IsFloor}
 use Rattle.ms_memory.specs.declared.lists.Lists.{Lists}
 use Rattle.ms_memory.specs.declared.shelf.Shelf.{Shelf}
 use Rattle.ms_memory.specs.declared.store.Spot.{Spot}

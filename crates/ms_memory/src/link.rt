@@ -3,7 +3,7 @@
 ghost use Rattle.std.specs.Prelude.{◌≡◌, ℕ, IfOk};
 ghost use Rattle.std.specs.Arc.{arc_value};
 ghost use Rattle.ms_base.specs.Counts.{Rose};
-ghost use Rattle.ms_core.specs.Floors.{IsFloor};
+ghost use Rattle.ms_record.specs.Floors.{IsFloor};
 ghost use Rattle.ms_core.specs.Views.{IsClosed, log_in};
 ghost use Rattle.ms_ken.specs.Lists.{MayFollow};
 ghost use Rattle.ms_link.specs.Links.{Learns};

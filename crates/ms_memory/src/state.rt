@@ -1,12 +1,12 @@
 //! What lies under a service's lock.
 
 ghost use Rattle.std.specs.Prelude.{◌≡◌, ◌↔◌, ◌<◌, [], drop, length, Some, IfOk, IsSome, IsTrue};
-ghost use Rattle.ms_core.specs.Floors.{IsFloor};
+ghost use Rattle.ms_record.specs.Floors.{IsFloor};
 ghost use Rattle.ms_core.specs.Views.{IsClosed, configuration};
 ghost use Rattle.ms_ken.specs.Lists.{list_at, MayFollow, with_told};
-ghost use Rattle.ms_link.specs.Links.{IsAbove, Learns};
+ghost use Rattle.ms_link.specs.Links.{Learns};
 ghost use Rattle.ms_record.specs.declared.item.Item.TheVariants.{Log};
-ghost use Rattle.ms_record.specs.Logs.{HasPut, texts_in};
+ghost use Rattle.ms_record.specs.Logs.{HasPut, texts_in, NoDropAbove};
 
 use crate::shelf::Shelf;
 use ms_base::{Bytes, Name, NoMemory, ServiceId};
@@ -138,7 +138,7 @@ impl<J: Naming> ServiceState<J> {
 
     /// Whether a text is kept under the name in the generation, which is not below the floor.
     pub fn has(&self, generation: u32, name: &Name) -> bool
-        requires { IsAbove self.now.log generation }
+        requires { NoDropAbove self.now.log generation }
         ensures { IsTrue result ↔ HasPut self.now.log generation name.now }
     {
         self.shelf.store.get(generation, name).is_some()
@@ -151,7 +151,7 @@ impl<J: Naming> ServiceState<J> {
         generation: u32,
         name: &Name,
     ) -> Result<Option<Bytes>, NoMemory>
-        requires { IsAbove self.now.log generation }
+        requires { NoDropAbove self.now.log generation }
         ensures { IfOk result (IsFirstPut self.now.log generation name.now) }
     {
         match self.shelf.store.get(generation, name) {

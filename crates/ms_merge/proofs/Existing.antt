@@ -12,10 +12,11 @@ use Rattle.std.proofs.lemmas.List.Filters.{length-filter_both}
 use Rattle.std.proofs.lemmas.Map.Keys.{IsDistinct-cons}
 use Rattle.std.proofs.lemmas.Map.Made.{is_some-lookup, length-le_from_is_member}
 use Rattle.std.proofs.lemmas.Slice.Eq.{bytes_eq-Decides}
+use Rattle.ms_base.specs.Places.{all_from}
+use Rattle.ms_base.specs.Rising.{Rises, Before, not_before_itself, rises_none, rises_first, rises_rest}
 use Rattle.ms_tree.specs.Files.{FileList, text_at, with_file}
 use Rattle.ms_tree.specs.Paths.{is_directory_of}
 use Rattle.ms_tree.specs.Merging.{Side, standing, is_conflict, names_of, conflicts, directories, AreTagged, MayMerge, IsMerge}
-use Rattle.ms_merge.proofs.Lists.{Rises, Before, not_before_itself, all_from, rises_none, rises_first, rises_rest}
 use Rattle.ms_merge.proofs.TreeLaws.{TreeLaws}
 use Rattle.ms_merge.specs.Settling.{settled_at}
 use Rattle.ms_merge.proofs.GivenNames.{as_many}

@@ -13,10 +13,10 @@ use Rattle.std.proofs.lemmas.Map.Keys.{IsDistinct-cons}
 use Rattle.std.proofs.lemmas.Map.Made.{is_some-lookup, length-le_from_is_member}
 use Rattle.std.proofs.lemmas.Map.Views.{Contains-from_any, list_any-from_Contains}
 use Rattle.std.proofs.lemmas.Slice.Eq.{bytes_eq-Decides}
+use Rattle.ms_base.specs.Places.{in_here, in_later, in_cases, in_none, map_has, all_from}
 use Rattle.ms_tree.specs.Paths.{is_directory_of}
 use Rattle.ms_tree.specs.Files.{FileList, text_at, IsFiles}
 use Rattle.ms_tree.specs.Merging.{Side, tagged, is_taken, is_free, IsTagged, MayMerge}
-use Rattle.ms_merge.proofs.Lists.{in_here, in_later, in_cases, in_none, map_has, all_from}
 use Rattle.ms_merge.proofs.TreeLaws.{DirectoryLaw}
 
 -- ---- what is taken begins a path

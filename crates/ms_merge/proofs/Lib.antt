@@ -1,4 +1,3 @@
-pub mod Lists
 pub mod TreeLaws
 pub mod Steps
 pub mod GivenNames

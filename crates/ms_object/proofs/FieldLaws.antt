@@ -2,50 +2,19 @@
 use Rattle.std.proofs.Common.{◌≡◌, ℕ, zero, suc, Bool, true, false, List, [], ◌∷◌, ◌++◌, length, Option, Some, None, refl, sym, ap, subst, ◌∙◌, append_assoc, append-nil, arith}
 use Rattle.std.specs.Prelude.{◌&&◌, All}
 use Rattle.std.proofs.lemmas.List.Concat.{flat_map-cons}
-use Rattle.ms_base.specs.Options.{◌>>=◌}
+use Rattle.ms_base.specs.Places.{some_same}
+use Rattle.ms_base.specs.Options.{◌>>=◌, bind_some}
 use Rattle.ms_base.specs.declared.names.Name.{Name}
 use Rattle.ms_base.specs.Fields.{IsBytes, name_at, many_at, at_end}
-use Rattle.ms_base.specs.FieldLaws.{Takes, FieldsRead, FieldsSpelled}
+use Rattle.ms_base.specs.FieldLaws.{Takes, FieldsRead, FieldsSpelled, Takes-then}
 use Rattle.ms_object.specs.Objects.{AreNames, names_text}
 use Rattle.ms_object.specs.Reading.{given_if, names_at}
 
 -- ---- steps
 
--- the value of a step that gave one
-pub bind_some : {A B : Type 0} (o : Option A) (f : A → Option B) (y : B) → (o >>= f) ≡ Some y → (x : A) × (o ≡ Some x) × (f x ≡ Some y)
-bind_some (Some x) f y e = (x, refl, e)
-bind_some None f y e = absurd cc
-
-abbrev given : {A : Type 0} → A → Option A
-given x = Some x
-
-pub some_is : {A : Type 0} (x y : A) → given x ≡ given y → x ≡ y
-some_is x y e = cc
-
 pub given_is : {A : Type 0} (b : Bool) (x y : A) → given_if b x ≡ Some y → (b ≡ true) × (x ≡ y)
 given_is true x y e = (refl, cc)
 given_is false x y e = absurd cc
-
-pub both : (a b : Bool) → (a && b) ≡ true → (a ≡ true) × (b ≡ true)
-both true true h = (refl, refl)
-both true false h = absurd cc
-both false b h = absurd cc
-
-pub ended : {A : Type 0} (x : A × List ℕ) (y : A) → at_end x ≡ Some y → (x.0 ≡ y) × (x.1 ≡ [])
-ended (a, []) y e = (some_is a y e, refl)
-ended (a, b ∷ rest) y e = absurd cc
-
--- ---- texts
-
-pub IsBytes-rest : (b : ℕ) (text : List ℕ) → IsBytes (b ∷ text) → IsBytes text
-IsBytes-rest b text h i = h (suc i)
-
-pub Takes-then : (a x b y c : List ℕ) → Takes a x b → Takes b y c → Takes a (x ++ y) c
-Takes-then a x b y c p q = record { parts = p.parts ∙ ap (λ (t : List ℕ). x ++ t) q.parts ∙ sym (append_assoc x y c); bytes = q.bytes }
-
--- nothing is left behind the spelling
-pub Takes-all : (text spelled rest : List ℕ) → Takes text spelled rest → rest ≡ [] → text ≡ spelled
-Takes-all text spelled rest h none = h.parts ∙ ap (λ (r : List ℕ). spelled ++ r) none ∙ append-nil spelled
 
 -- ---- names
 
@@ -69,7 +38,7 @@ pub names_take : FieldsSpelled → (count : ℕ) (text : List ℕ) (x : List Nam
 unfolding many_at
 names_take law zero text x fits e =
     let none : AreNames [] = λ k d lt. absurd (omega arith) in
-    subst (TakesNames zero text) (some_is ([], text) x e) (record { takes = record { parts = refl; bytes = fits }; names = none; all = refl })
+    subst (TakesNames zero text) (some_same ([], text) x e) (record { takes = record { parts = refl; bytes = fits }; names = none; all = refl })
 names_take law (suc n) text x fits e =
     let a = bind_some (name_at text) (λ first. many_at name_at n first.1 >>= λ others. Some (first.0 ∷ others.0, others.1)) x e in
     let b = bind_some (many_at name_at n a.0.1) (λ others. Some (a.0.0 ∷ others.0, others.1)) x a.2 in
@@ -78,7 +47,7 @@ names_take law (suc n) text x fits e =
     let made : List Name × List ℕ = (a.0.0 ∷ b.0.0, b.0.1) in
     let whole = Takes-then text a.0.0.0 a.0.1 (names_text b.0.0) b.0.1 first.0 others.takes in
     let takes : Takes text (names_text made.0) made.1 = rw flat_map-cons whole in
-    subst (TakesNames (suc n) text) (some_is made x b.2)
+    subst (TakesNames (suc n) text) (some_same made x b.2)
     (record { takes = takes; names = All-cons (λ (name : Name). length name.0 ≡ 32) a.0.0 b.0.0 first.1 others.names; all = ap suc others.all })
 
 pub names_again : FieldsRead → (names : List Name) (rest : List ℕ) → AreNames names → names_at (length names) (names_text names ++ rest) ≡ Some (names, rest)

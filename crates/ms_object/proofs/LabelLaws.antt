@@ -8,8 +8,8 @@ use Rattle.std.proofs.lemmas.Bool.{leb-true, le-leb, eqb-true}
 use Rattle.std.proofs.lemmas.List.Folds.{Any-from_list_any, list_any-from_Any}
 use Rattle.std.proofs.lemmas.Slice.Eq.{bytes_eq-Decides}
 use Rattle.std.proofs.lemmas.Str.{IsUtf8-from_is_utf8, is_utf8-from_IsUtf8}
+use Rattle.ms_base.specs.Options.{both}
 use Rattle.ms_object.specs.Labels.{IsLabel, is_dots, has_separator, is_label}
-use Rattle.ms_object.proofs.FieldLaws.{both}
 
 joined : (a b : Bool) → a ≡ true → b ≡ true → (a && b) ≡ true
 joined a b p q = rw (p, q) refl

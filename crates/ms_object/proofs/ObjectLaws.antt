@@ -5,9 +5,10 @@ use Rattle.std.specs.Bool.{OnTrue}
 use Rattle.std.specs.Int.{w32, w64, to_be_bytes}
 use Rattle.std.proofs.lemmas.Bool.{eqb-true, leb-true, le-leb}
 use Rattle.std.proofs.lemmas.List.Elements.{All-map}
-use Rattle.ms_base.specs.Options.{◌>>=◌}
+use Rattle.ms_base.specs.Places.{some_same}
+use Rattle.ms_base.specs.Options.{◌>>=◌, bind_some, both}
 use Rattle.ms_base.specs.Fields.{IsBytes, Field, byte_at, number_at, name_at, client_at, at_end}
-use Rattle.ms_base.specs.FieldLaws.{Takes, FieldsRead, FieldsSpelled}
+use Rattle.ms_base.specs.FieldLaws.{Takes, FieldsRead, FieldsSpelled, ended, IsBytes-rest, Takes-then, Takes-all}
 use Rattle.ms_base.specs.declared.limits.TheConstants.{CLIENTS, PARENTS}
 use Rattle.ms_base.specs.declared.names.ClientId.{ClientId}
 use Rattle.ms_base.specs.declared.names.Name.{Name}
@@ -22,7 +23,7 @@ use Rattle.ms_object.specs.declared.object.Row.{Row}
 use Rattle.ms_object.specs.declared.object.SizedRow.{SizedRow}
 use Rattle.ms_object.specs.Objects.{AreNames, AreRows, IsBlob, IsFile, IsVersion, IsObject, Spells, blob_size, least_blob, most_file, most_rows, blobs_in, children_of, names_text, object_text, row_text, sized_row_text, blob_tag, file_tag, dir_tag, version_tag, blob_object, file_object, version_object, blob_text, file_text, version_text}
 use Rattle.ms_object.specs.Reading.{RowReader, given_if, names_at, blob_at, file_head_at, file_at, rows_at, row_at, sized_row_at, row_count_at, dir_with, dir_at, version_head_at, version_at, tagged_as, tagged_at, object_at, blob_bytes, most_text, Gives, Answers}
-use Rattle.ms_object.proofs.FieldLaws.{bind_some, some_is, given_is, both, ended, IsBytes-rest, Takes-then, Takes-all, All-cons, All-first, All-rest, names_take, names_again}
+use Rattle.ms_object.proofs.FieldLaws.{given_is, All-cons, All-first, All-rest, names_take, names_again}
 use Rattle.ms_object.proofs.RowLaws.{IsRowGrammar, RowFits, SizedRowFits, row_grammar, sized_row_grammar, rows_are_read, rows_are_read_again}
 
 -- ---- what the variants of a format share
@@ -143,7 +144,7 @@ dir_is_read {R} one text_of label_of fits g law make text o bytes e =
     let rows = rows_are_read one text_of label_of fits g c.0.0 c.0.1 r.0 count.takes.bytes r.1 in
     let whole : text ≡ to_be_bytes w32 (length r.0) ++ flat_map text_of r.0 = count.takes.parts ∙ (λ i. to_be_bytes w32 (sym rows.all i) ++ rows.spelled i) in record {
       rows = r.0;
-      is = some_is (make r.0) o r.2;
+      is = some_same (make r.0) o r.2;
       spelled = whole;
       fit = rows.fit;
       dir = record { few = omega (arith, rows.all, count.few); labels = λ k d lt. g.label (get_or r.0 k d) (rows.fit k d lt); rising = rows.rise };
@@ -318,7 +319,7 @@ pub spelled_is_read : FieldsSpelled → FieldsRead → (text : List ℕ) (o : Ob
 spelled_is_read law read text o h = ap object_at h.spelled ∙ object_is_read_again law read o h.ranges
 
 pub one_value : FieldsSpelled → FieldsRead → (text : List ℕ) (o p : Object) → Spells text o → Spells text p → o ≡ p
-one_value law read text o p h k = some_is o p (sym (spelled_is_read law read text o h) ∙ spelled_is_read law read text p k)
+one_value law read text o p h k = some_same o p (sym (spelled_is_read law read text o h) ∙ spelled_is_read law read text p k)
 
 -- what was found, where a value was asked for
 pub object_is_found : FieldsSpelled → FieldsRead → (text : List ℕ) (r : Result Object ObjectError) → IsBytes text → Answers text (object_at text) r → IfOk r (λ o. Spells text o)
@@ -327,7 +328,7 @@ object_is_found law read text (Err e) fits h = tt
 
 -- a text that spells an object is answered by it, or memory ran out
 pub object_is_given : FieldsSpelled → FieldsRead → (text : List ℕ) (r : Result Object ObjectError) (o : Object) → Spells text o → length text ≤ most_text → Answers text (object_at text) r → (r ≡ Ok o) ⊎ (r ≡ Err errors.NoMemory)
-object_is_given law read text (Ok p) o h few is = inl (ap Ok (some_is p o (sym is.1 ∙ spelled_is_read law read text o h)))
+object_is_given law read text (Ok p) o h few is = inl (ap Ok (some_same p o (sym is.1 ∙ spelled_is_read law read text o h)))
 object_is_given law read text (Err errors.NoMemory) o h few is = inr refl
 object_is_given law read text (Err errors.NotAnObject) o h few is = absurd (none-some o (sym is.1 ∙ spelled_is_read law read text o h))
 object_is_given law read text (Err (errors.TooLarge bytes)) o h few is = absurd (omega (arith, is.0))
@@ -391,7 +392,7 @@ blob_only format tag rest (Some p) spells never = by format p (spells p refl) ne
 -- what the first byte and the bytes behind it say of all of the text
 pub text_begins : (text : List ℕ) (x : ℕ × List ℕ) → byte_at text ≡ Some x → text ≡ x.0 ∷ x.1
 text_begins [] x e = absurd cc
-text_begins (b ∷ rest) x e = ap (λ (y : ℕ × List ℕ). y.0 ∷ y.1) (some_is (b, rest) x e)
+text_begins (b ∷ rest) x e = ap (λ (y : ℕ × List ℕ). y.0 ∷ y.1) (some_same (b, rest) x e)
 
 -- a blob names nothing, and is short enough to be read
 abbrev pub NamesNothing : List ℕ → Option Object → Type 0

@@ -11,18 +11,19 @@ use Rattle.std.specs.Cmp.Lexicographic.{slice_cmp}
 use Rattle.std.proofs.lemmas.Bool.{eqb-true}
 use Rattle.std.proofs.lemmas.Cmp.{nat_list_cmp_total}
 use Rattle.std.proofs.lemmas.List.Concat.{flat_map-cons}
-use Rattle.ms_base.specs.Options.{◌>>=◌}
+use Rattle.ms_base.specs.Places.{some_same}
+use Rattle.ms_base.specs.Options.{◌>>=◌, bind_some, both}
 use Rattle.ms_base.specs.declared.names.Name.{Name}
 use Rattle.ms_object.specs.declared.object.Kind.{Kind}
 use Rattle.ms_object.specs.declared.object.Kind.TheVariants as kinds
 use Rattle.ms_object.specs.declared.object.Row.{Row}
 use Rattle.ms_object.specs.declared.object.SizedRow.{SizedRow}
 use Rattle.ms_base.specs.Fields.{IsBytes, Field, byte_at, bytes_at, number_at, name_at, many_at, at_end}
-use Rattle.ms_base.specs.FieldLaws.{Takes, FieldsRead, FieldsSpelled}
+use Rattle.ms_base.specs.FieldLaws.{Takes, FieldsRead, FieldsSpelled, ended, Takes-then, Takes-all}
 use Rattle.ms_object.specs.Labels.{IsLabel, IsBefore, is_label}
 use Rattle.ms_object.specs.Objects.{front_text, kind_byte, row_text, sized_row_text}
 use Rattle.ms_object.specs.Reading.{RowReader, given_if, kind_of, label_if, front_at, row_at, sized_row_at, rows_at}
-use Rattle.ms_object.proofs.FieldLaws.{bind_some, some_is, given_is, both, ended, Takes-then, Takes-all, All-cons, All-rest, All-first}
+use Rattle.ms_object.proofs.FieldLaws.{given_is, All-cons, All-rest, All-first}
 use Rattle.ms_object.proofs.LabelLaws.{label_passes, label_keeps}
 
 -- ---- the order of labels
@@ -76,8 +77,8 @@ rise_from_nothing label_of rows labels h = (all_some label_of rows labels, h)
 -- ---- one row
 
 either_some : {A : Type 0} (a b : Bool) (x y z : A) → cond a (Some x) (cond b (Some y) None) ≡ Some z → ((a ≡ true) × (x ≡ z)) ⊎ ((b ≡ true) × (y ≡ z))
-either_some true b x y z e = inl (refl, some_is x z e)
-either_some false true x y z e = inr (refl, some_is y z e)
+either_some true b x y z e = inl (refl, some_same x z e)
+either_some false true x y z e = inr (refl, some_same y z e)
 either_some false false x y z e = absurd cc
 
 kind_is : (byte : ℕ) (kind : Kind) → kind_of byte ≡ Some kind → byte ≡ kind_byte kind
@@ -167,7 +168,7 @@ row_takes law before text x fits e =
     let front = front_takes law before text f.0 fits f.1 in
     let name = law.name f.0.1 n.0 front.takes.bytes n.1 in
     let made : Row × (List ℕ × List ℕ) = (record { kind = f.0.0.0; label = f.0.0.1; name = n.0.0 }, (f.0.0.1, n.0.1)) in
-    subst (TakesRow row_text (λ (row : Row). row.label) RowFits before text) (some_is made x n.2)
+    subst (TakesRow row_text (λ (row : Row). row.label) RowFits before text) (some_same made x n.2)
     (record {
       takes = Takes-then text (front_text f.0.0.0 f.0.0.1) f.0.1 n.0.0.0 n.0.1 front.takes name.0;
       fit = record { label = front.label; name = name.1 };
@@ -207,7 +208,7 @@ sized_row_takes law before text x fits e =
     let size = law.eight f.0.1 s.0 front.takes.bytes s.1 in
     let name = law.name s.0.1 n.0 size.0.bytes n.1 in
     let made : SizedRow × (List ℕ × List ℕ) = (record { kind = f.0.0.0; label = f.0.0.1; size = s.0.0; name = n.0.0 }, (f.0.0.1, n.0.1)) in
-    subst (TakesRow sized_row_text (λ (row : SizedRow). row.label) SizedRowFits before text) (some_is made x n.2)
+    subst (TakesRow sized_row_text (λ (row : SizedRow). row.label) SizedRowFits before text) (some_same made x n.2)
     (record {
       takes = Takes-then text (front_text f.0.0.0 f.0.0.1 ++ to_be_bytes w64 s.0.0) s.0.1 n.0.0.0 n.0.1 (Takes-then text (front_text f.0.0.0 f.0.0.1) f.0.1 (to_be_bytes w64 s.0.0) s.0.1 front.takes size.0) name.0;
       fit = record { label = front.label; size = size.1; name = name.1 };
@@ -240,7 +241,7 @@ pub rows_take : {R : Type 0} (one : RowReader R) (text_of label_of : R → List 
     → many_at one count (before, text) ≡ Some x → TakesRows text_of label_of fits count before text x
 unfolding many_at
 rows_take one text_of label_of fits g zero before text x bytes e =
-    subst (TakesRows text_of label_of fits zero before text) (some_is ([], (before, text)) x e)
+    subst (TakesRows text_of label_of fits zero before text) (some_same ([], (before, text)) x e)
     (record { takes = record { parts = refl; bytes = bytes }; all = refl; fit = λ k d lt. absurd (omega arith); rise = rise_alone before })
 rows_take {R} one text_of label_of fits g (suc n) before text x bytes e =
     let a = bind_some (one (before, text)) (λ first. many_at one n first.1 >>= λ others. Some (first.0 ∷ others.0, others.1)) x e in
@@ -250,7 +251,7 @@ rows_take {R} one text_of label_of fits g (suc n) before text x bytes e =
     let made : List R × (List ℕ × List ℕ) = (a.0.0 ∷ b.0.0, b.0.1) in
     let whole = Takes-then text (text_of a.0.0) a.0.1.1 (flat_map text_of b.0.0) b.0.1.1 first.takes others.takes in
     let rise = subst (λ (l : List ℕ). Rise (l ∷ map label_of b.0.0)) first.last others.rise in
-    subst (TakesRows text_of label_of fits (suc n) before text) (some_is made x b.2)
+    subst (TakesRows text_of label_of fits (suc n) before text) (some_same made x b.2)
     (record {
       takes = rw flat_map-cons whole;
       all = ap suc others.all;

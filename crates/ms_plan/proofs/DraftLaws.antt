@@ -3,11 +3,11 @@ use Rattle.std.proofs.Common.{◌≡◌, ℕ, ◌/◌, ◌^◌, ◌<◌, ◌≤�
 use Rattle.std.specs.Prelude.{nat_le}
 use Rattle.std.specs.List.{list_any}
 use Rattle.std.proofs.lemmas.Bool.{leb-true}
+use Rattle.ms_base.specs.Options.{both}
 use Rattle.ms_plan.specs.Drafts.{AreLabels, AreNumbers, DraftView, IsCapacity, IsDraft, has_copies, labels_of}
 use Rattle.ms_text.specs.Labels.{IsClientLabel}
 use Rattle.ms_plan.specs.declared.config_line.ServiceLine.{ServiceLine}
 use Rattle.ms_plan.proofs.LabelLists.{last_or, more_labels, used_labels, labels-push}
-use Rattle.ms_plan.proofs.Tests.{both}
 
 pub capacity_fits : (unit capacity : ℕ) → has_copies unit capacity ≡ true → IsCapacity unit capacity
 capacity_fits unit capacity h =

@@ -3,13 +3,13 @@ use Rattle.std.proofs.Common.{◌≡◌, ℕ, zero, suc, ◌+◌, ◌/◌, ◌<�
 use Rattle.std.specs.List.{range_with_len}
 use Rattle.std.proofs.lemmas.List.{length-take-le, take_more, take_more_set}
 use Rattle.std.proofs.lemmas.Option.{slice_get_within}
+use Rattle.ms_base.specs.Places.{some_same}
 use Rattle.ms_record.specs.Plans.{IsPlan, IsRow, PlanView}
 use Rattle.ms_record.specs.Settings.{IsFirstPlan}
 use Rattle.ms_record.specs.declared.plan.PlanRow.{PlanRow}
 use Rattle.ms_plan.specs.Configuration.{first_plan, row_of, rows_from}
 use Rattle.ms_plan.specs.Drafts.{AreNumbers, DraftView, IsDraft}
 use Rattle.ms_plan.specs.declared.config_line.ServiceLine.{ServiceLine}
-use Rattle.ms_plan.proofs.Tests.{same_some}
 
 pub length-rows_from : (n : ℕ) (services : List ServiceLine) → length (rows_from n services) ≡ length services
 length-rows_from n [] = refl
@@ -25,7 +25,7 @@ record IsRowAt (n : ℕ) (services : List ServiceLine) (i : ℕ) (row : PlanRow)
 row_at : (n : ℕ) (services : List ServiceLine) (i : ℕ) (row : PlanRow) → slice_get (rows_from n services) i ≡ Some row → IsRowAt n services i row
 row_at n [] i row e = absurd cc
 row_at n (s ∷ services) zero row e =
-    let same : row_of n s ≡ row = same_some (row_of n s) row e in
+    let same : row_of n s ≡ row = some_same (row_of n s) row e in
     record { service = s; at = refl; number = omega (arith, ap (λ (r : PlanRow). r.service.0) same); capacity = sym (ap (λ (r : PlanRow). r.capacity) same) }
 row_at n (s ∷ services) (suc i) row e =
     let r = row_at (n + 1) services i row e in

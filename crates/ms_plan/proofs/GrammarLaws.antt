@@ -4,6 +4,8 @@ use Rattle.std.specs.Prelude.{◌&&◌, ◌==◌, not}
 use Rattle.std.specs.List.{list_any}
 use Rattle.std.proofs.lemmas.Bool.{leb-true, ltb-true}
 use Rattle.std.proofs.lemmas.List.{append-nil}
+use Rattle.ms_base.specs.Places.{some_same}
+use Rattle.ms_base.specs.Options.{both}
 use Rattle.ms_text.specs.Lines.{lines_of, on_or_wrong, or_wrong, read_lines}
 use Rattle.ms_plan.specs.ConfigLines.{HasLabel, line_at}
 use Rattle.ms_plan.specs.Configuration.{ConfigView, config_at, config_line, config_of, whole}
@@ -15,7 +17,7 @@ use Rattle.ms_plan.specs.declared.config_line.ServiceLine.{ServiceLine}
 use Rattle.ms_plan.proofs.DraftLaws.{client_kept, service_kept}
 use Rattle.ms_plan.proofs.LabelLists.{no_labels}
 use Rattle.ms_plan.proofs.LineForms.{one_value}
-use Rattle.ms_plan.proofs.Tests.{both, same_some, where_true}
+use Rattle.ms_plan.proofs.Tests.{where_true}
 
 abbrev some : Line → Option Line
 some line = Some line
@@ -53,7 +55,7 @@ goes_on draft next (forms.Service service) form h e =
     let c = both (length draft.clients == 0) (nat_lt (length draft.services) 16) b.0 in
     let none : length draft.clients ≡ 0 = eqb-true (length draft.clients) 0 c.0 in
     let kept : IsDraft more = service_kept draft (draft.services ++ service ∷ []) service h refl none (ltb-true (length draft.services) 16 c.1) b.1 form (not_so used a.1) in
-    subst (λ (d : DraftView). IsDraft d × (said_lines draft ++ forms.Service service ∷ [] ≡ said_lines d)) (same_some more next t.1)
+    subst (λ (d : DraftView). IsDraft d × (said_lines draft ++ forms.Service service ∷ [] ≡ said_lines d)) (some_same more next t.1)
     (kept, ap (λ (ls : List Line). forms.Head draft.replicas draft.unit ∷ ls) (one_service draft.services draft.clients service none))
 goes_on draft next (forms.Client label) form h e =
     let used : Bool = list_any (λ l. bytes_eq l label) draft.clients in
@@ -62,7 +64,7 @@ goes_on draft next (forms.Client label) form h e =
     let a = both _ (not used) t.0 in
     let b = both (nat_le draft.replicas (length draft.services)) (nat_lt (length draft.clients) 16) a.0 in
     let kept : IsDraft more = client_kept draft (draft.clients ++ label ∷ []) label h refl (leb-true draft.replicas (length draft.services) b.0) (ltb-true (length draft.clients) 16 b.1) form (not_so used a.1) in
-    subst (λ (d : DraftView). IsDraft d × (said_lines draft ++ forms.Client label ∷ [] ≡ said_lines d)) (same_some more next t.1)
+    subst (λ (d : DraftView). IsDraft d × (said_lines draft ++ forms.Client label ∷ [] ≡ said_lines d)) (some_same more next t.1)
     (kept, ap (λ (ls : List Line). forms.Head draft.replicas draft.unit ∷ ls) (one_client draft.services draft.clients label))
 
 -- what the lines from some draft on come to
@@ -141,7 +143,7 @@ first_kept replicas unit draft e =
       client_labels = no_labels;
       enough = λ h. absurd (omega arith);
     } in
-    subst (λ (d : DraftView). IsDraft d × (said_lines d ≡ forms.Head replicas unit ∷ [])) (same_some (first_draft replicas unit) draft t.1) (kept, refl)
+    subst (λ (d : DraftView). IsDraft d × (said_lines d ≡ forms.Head replicas unit ∷ [])) (some_same (first_draft replicas unit) draft t.1) (kept, refl)
 
 abbrev Reads : List ℕ → List (List ℕ) → ConfigView → Type 0
 Reads text texts config = (draft : DraftView) × (map line_at texts ≡ map some (said_lines draft)) × IsDraft draft × (1 ≤ length draft.clients) × (config ≡ config_of text draft)

@@ -10,7 +10,7 @@ use Rattle.serde_json.specs.Data.{Data, number, array, object, Members, no_membe
 use Rattle.serde_json.specs.Events.{members_len}
 use Rattle.serde_json.specs.Find.{get_member}
 use Rattle.serde_json.specs.Read.{number_of, of_json, of_items, of_members}
-use Rattle.ms_plan.proofs.Tests.{same_some}
+use Rattle.ms_base.specs.Places.{some_same}
 
 abbrev cmp : List ℕ → List ℕ → Ordering
 cmp = slice_cmp nat_cmp
@@ -54,7 +54,7 @@ rise_put k d (member l e ms) h = by (rise_put k d ms h.1) (cmp k l) refl
     by later Greater is = (above_put l k d ms (turned k l is) h.0, later)
 
 rise_read : (js : json.Members) (found ms : Members) → Rise found → of_members js found ≡ Some ms → Rise ms
-rise_read json.no_members found ms h e = subst Rise (same_some found ms e) h
+rise_read json.no_members found ms h e = subst Rise (some_same found ms e) h
 rise_read (json.member k j js) found ms h e = by (λ d next. rise_read js (put k d found) ms (rise_put k d found h) next) (of_json j) e
   where
     by : ((d : Data) → of_members js (put k d found) ≡ Some ms → Rise ms) → (o : Option Data) → option_and_then (λ d. of_members js (put k d found)) o ≡ Some ms → Rise ms
@@ -63,7 +63,7 @@ rise_read (json.member k j js) found ms h e = by (λ d next. rise_read js (put k
 
 not_object : {X : Type 0} (f : X → Data) (o : Option X) (ms : Members) → ((x : X) → f x ≡ object ms → ⊥) → option_map f o ≡ Some (object ms) → ⊥
 not_object f None ms never e = absurd (cc)
-not_object f (Some x) ms never e = never x (same_some (f x) (object ms) e)
+not_object f (Some x) ms never e = never x (some_same (f x) (object ms) e)
 
 object_of : (o : Option Members) (ms : Members) → option_map object o ≡ Some (object ms) → o ≡ Some ms
 object_of None ms e = absurd (cc)
@@ -118,7 +118,7 @@ first k m d a wanted ms w r f = by (cmp m k) refl f.0
     by Less is e = later e
     by Equal is e =
         let same : m ≡ k = same_key m k is in
-        here (sym same) (same_some d a e) (found_behind k d wanted ms (subst (λ (l : List ℕ). Above l wanted) same w.0) f.1)
+        here (sym same) (some_same d a e) (found_behind k d wanted ms (subst (λ (l : List ℕ). Above l wanted) same w.0) f.1)
     by Greater is e = later e
 
 -- there are as many at least

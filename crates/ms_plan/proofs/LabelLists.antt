@@ -7,10 +7,10 @@ use Rattle.std.proofs.lemmas.List.Quantifiers.{position-Some}
 use Rattle.std.proofs.lemmas.List.Sums.{fails_before_first, passes_at_first}
 use Rattle.std.proofs.lemmas.Option.{slice_get_within, get_or_from_slice_get, slice_get-get_or}
 use Rattle.std.proofs.lemmas.Slice.Eq.{bytes_eq-Decides}
+use Rattle.ms_base.specs.Places.{some_same}
 use Rattle.ms_plan.specs.Drafts.{AreLabels, labels_of}
 use Rattle.ms_text.specs.Labels.{IsClientLabel}
 use Rattle.ms_plan.specs.declared.config_line.ServiceLine.{ServiceLine}
-use Rattle.ms_plan.proofs.Tests.{same_some}
 
 neither : (a b : Bool) → (a || b) ≡ false → (a ≡ false) × (b ≡ false)
 neither true b h = absurd cc
@@ -24,13 +24,13 @@ pub unused : (labels : List (List ℕ)) (label : List ℕ) → list_any (λ l. b
 unused [] label free i at = none_some label at
 unused (l ∷ labels) label free zero at =
     let f = neither (bytes_eq l label) _ free in
-    let same : bytes_eq l label ≡ true = (bytes_eq-Decides l label).1 (same_some l label at) in
+    let same : bytes_eq l label ≡ true = (bytes_eq-Decides l label).1 (some_same l label at) in
     let e : true ≡ false = sym same ∙ f.0 in absurd cc
 unused (l ∷ labels) label free (suc i) at = unused labels label (neither (bytes_eq l label) _ free).1 i at
 
 -- at the end, or before it
 pub last_or : {X : Type 0} (xs : List X) (y x : X) (i : ℕ) → slice_get (xs ++ y ∷ []) i ≡ Some x → (slice_get xs i ≡ Some x) ⊎ ((i ≡ length xs) × (y ≡ x))
-last_or [] y x zero e = inr (refl, same_some y x e)
+last_or [] y x zero e = inr (refl, some_same y x e)
 last_or [] y x (suc i) e = none_some x e
 last_or (z ∷ xs) y x zero e = inl e
 last_or (z ∷ xs) y x (suc i) e = elim (last_or xs y x i e) [ inl h ↦ inl h | inr h ↦ inr (ap suc h.0, h.1) ]

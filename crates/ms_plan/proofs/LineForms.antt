@@ -4,7 +4,8 @@ use Rattle.std.specs.Prelude.{◌&&◌, ◌==◌, codes}
 use Rattle.std.specs.Str.{is_utf8}
 use Rattle.json.specs.Json as json
 use Rattle.json.specs.Lex.{tokens}
-use Rattle.ms_base.specs.Options.{◌>>=◌}
+use Rattle.ms_base.specs.Places.{some_same}
+use Rattle.ms_base.specs.Options.{◌>>=◌, both}
 use Rattle.serde_json.specs.Data.{unsigned, negative, float, Data, null, boolean, number, string, array, object, Members, no_members, member}
 use Rattle.serde_json.specs.Events.{members_len}
 use Rattle.serde_json.specs.Find.{get, as_number, as_str, as_u64}
@@ -16,7 +17,7 @@ use Rattle.ms_plan.specs.declared.config_line.Line.TheVariants as forms
 use Rattle.ms_plan.specs.declared.config_line.ServiceLine.{ServiceLine}
 use Rattle.ms_plan.proofs.Keys.{Found, Rise, all_found, rise_object}
 use Rattle.ms_text.specs.LabelLaws.{label_keeps, label_passes}
-use Rattle.ms_plan.proofs.Tests.{both, same_some, where_true}
+use Rattle.ms_plan.proofs.Tests.{where_true}
 
 -- ---- from the value to the line
 
@@ -43,7 +44,7 @@ number_there : (o : Option Data) (n : ℕ) → option_and_then as_u64 (option_an
 number_there None n e = absurd (cc)
 number_there (Some null) n e = absurd (cc)
 number_there (Some (boolean b)) n e = absurd (cc)
-number_there (Some (number (unsigned m))) n e = ap (λ (k : ℕ). Some (number (unsigned k))) (same_some m n e)
+number_there (Some (number (unsigned m))) n e = ap (λ (k : ℕ). Some (number (unsigned k))) (some_same m n e)
 number_there (Some (number (negative z))) n e = absurd (cc)
 number_there (Some (number (float x))) n e = absurd (cc)
 number_there (Some (string s)) n e = absurd (cc)
@@ -55,7 +56,7 @@ text_there None s e = absurd (cc)
 text_there (Some null) s e = absurd (cc)
 text_there (Some (boolean b)) s e = absurd (cc)
 text_there (Some (number n)) s e = absurd (cc)
-text_there (Some (string t)) s e = ap (λ (x : List ℕ). Some (string x)) (same_some t s e)
+text_there (Some (string t)) s e = ap (λ (x : List ℕ). Some (string x)) (some_same t s e)
 text_there (Some (array ds)) s e = absurd (cc)
 text_there (Some (object ms)) s e = absurd (cc)
 
@@ -63,7 +64,7 @@ label_there : (o : Option Data) (l : List ℕ) → option_and_then label_if (opt
 label_there o l e =
     let s = and_some label_if (option_and_then as_str o) l e in
     let t = where_true (is_label s.0) (Some s.0) l s.2 in
-    let same : s.0 ≡ l = same_some s.0 l t.1 in
+    let same : s.0 ≡ l = some_same s.0 l t.1 in
     (text_there o l (s.1 ∙ ap (λ (x : List ℕ). Some x) same), subst IsClientLabel same (label_passes s.0 t.0))
 
 -- each of these is a value of it
@@ -98,7 +99,7 @@ head_said j d line e h =
     let t = where_true ((key_count d == 3) && (v.0 == 1)) (Some (forms.Head r.0 u.0)) line u.2 in
     let b = both (key_count d == 3) (v.0 == 1) t.0 in
     let one : v.0 ≡ 1 = eqb-true v.0 1 b.1 in
-    let same : forms.Head r.0 u.0 ≡ line = same_some (forms.Head r.0 u.0) line t.1 in
+    let same : forms.Head r.0 u.0 ≡ line = some_same (forms.Head r.0 u.0) line t.1 in
     let wanted : Members = member (codes "metasync") (number (unsigned 1)) (member (codes "replicas") (number (unsigned r.0)) (member (codes "unit") (number (unsigned u.0)) no_members)) in
     let said : d ≡ object wanted = is_that j d wanted e (omega arith) (eqb-true (key_count d) 3 b.0) (((refl, (refl, tt)), ((refl, tt), (tt, tt))))
     (number_there (get (codes "metasync") d) 1 (v.1 ∙ ap (λ (n : ℕ). Some n) one), (number_there (get (codes "replicas") d) r.0 r.1, (number_there (get (codes "unit") d) u.0 u.1, tt))) in
@@ -111,7 +112,7 @@ service_said j d line e h =
     let c = then_some (number_in d (codes "capacity")) _ line l.2 in
     let service : ServiceLine = record { label = l.0; capacity = c.0 } in
     let t = where_true (key_count d == 2) (Some (forms.Service service)) line c.2 in
-    let same : forms.Service service ≡ line = same_some (forms.Service service) line t.1 in
+    let same : forms.Service service ≡ line = some_same (forms.Service service) line t.1 in
     let label = label_there (get (codes "service") d) l.0 l.1 in
     let wanted : Members = member (codes "capacity") (number (unsigned c.0)) (member (codes "service") (string l.0) no_members) in
     let said : d ≡ object wanted = is_that j d wanted e (omega arith) (eqb-true (key_count d) 2 t.0) (((refl, tt), (tt, tt)))
@@ -123,7 +124,7 @@ unfolding client_in IsSaid FoundAt
 client_said j d line e h =
     let l = then_some (label_in d (codes "client")) _ line h in
     let t = where_true (key_count d == 1) (Some (forms.Client l.0)) line l.2 in
-    let same : forms.Client l.0 ≡ line = same_some (forms.Client l.0) line t.1 in
+    let same : forms.Client l.0 ≡ line = some_same (forms.Client l.0) line t.1 in
     let label = label_there (get (codes "client") d) l.0 l.1 in
     let wanted : Members = member (codes "client") (string l.0) no_members in
     let said : d ≡ object wanted = is_that j d wanted e (omega arith) (eqb-true (key_count d) 1 t.0) ((tt, tt)) (label.0, tt) in

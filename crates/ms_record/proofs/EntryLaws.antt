@@ -3,7 +3,8 @@ use Rattle.std.proofs.Common.{◌≡◌, ℕ, Bool, true, false, cond, List, [],
 use Rattle.std.specs.Prelude.{IfSome, ◌==◌}
 use Rattle.std.specs.Int.{w32, to_be_bytes}
 use Rattle.std.proofs.lemmas.Bool.{eqb-true}
-use Rattle.ms_base.specs.Options.{◌>>=◌}
+use Rattle.ms_base.specs.Places.{some_same}
+use Rattle.ms_base.specs.Options.{◌>>=◌, bind_some}
 use Rattle.ms_base.specs.declared.names.Name.{Name}
 use Rattle.ms_base.specs.declared.names.ClientId.{ClientId}
 use Rattle.ms_record.specs.declared.entry.Entry.{Entry}
@@ -11,8 +12,7 @@ use Rattle.ms_base.specs.Fields.{IsBytes, number_at, name_at, client_at, at_end}
 use Rattle.ms_record.specs.Plans.{PlanView, IsPlan, plan_text}
 use Rattle.ms_record.specs.Entries.{IsEntry, tag_of, plan_part, entry_text}
 use Rattle.ms_record.specs.Reading.{plan_at, push_at, plan_entry_at, tagged_at, entry_at}
-use Rattle.ms_base.specs.FieldLaws.{Takes, FieldsRead, FieldsSpelled}
-use Rattle.ms_record.proofs.ReadingSteps.{bind_some, some_is, ended, IsBytes-rest, Takes-then}
+use Rattle.ms_base.specs.FieldLaws.{Takes, FieldsRead, FieldsSpelled, ended, IsBytes-rest, Takes-then}
 use Rattle.ms_record.proofs.PlanLaws.{plan_takes, plan_again}
 
 -- what a push and a plan entry share
@@ -47,7 +47,7 @@ push_takes law text x fits e =
     let e2 = Takes-then text (b.0.0.0 ++ to_be_bytes w32 c.0.0.0) c.0.1 (to_be_bytes w32 n.0.0) n.0.1 e1 t2.0 in
     let e3 = Takes-then text (b.0.0.0 ++ to_be_bytes w32 c.0.0.0 ++ to_be_bytes w32 n.0.0) n.0.1 v.0.0.0 v.0.1 e2 t3.0 in
     let made : Entry × List ℕ = (push_of b.0.0 c.0.0 n.0.0 v.0.0, v.0.1) in
-    subst (TakesPush text) (some_is made x v.2) (record { takes = e3; entry = record { before = t0.1; client = t1.1; number = t2.1; version = t3.1; plan = tt }; none = refl })
+    subst (TakesPush text) (some_same made x v.2) (record { takes = e3; entry = record { before = t0.1; client = t1.1; number = t2.1; version = t3.1; plan = tt }; none = refl })
 
 push_again : FieldsRead → (before : Name) (client : ClientId) (number : ℕ) (version : Name) (rest : List ℕ) → IsEntry (push_of before client number version)
     → push_at (push_text (push_of before client number version) ++ rest) ≡ Some (push_of before client number version, rest)
@@ -83,7 +83,7 @@ plan_body law tag text x fits is e =
     let plan = plan_takes law a.0.1 b.0 push.takes.bytes b.1 in
     let whole = Takes-then text (push_text a.0.0) a.0.1 (plan_text b.0.0) b.0.1 push.takes plan.0 in
     let made : Entry × List ℕ = (record a.0.0 { plan = Some b.0.0 }, b.0.1) in
-    subst (TakesBody tag text) (some_is made x b.2) (record { takes = whole; entry = with_plan a.0.0 b.0.0 push.entry plan.1; kind = is })
+    subst (TakesBody tag text) (some_same made x b.2) (record { takes = whole; entry = with_plan a.0.0 b.0.0 push.entry plan.1; kind = is })
 
 -- a choice of two that gave something
 pub either_some : {A : Type 0} (a b : Bool) (x y : Option A) (z : A) → cond a x (cond b y None) ≡ Some z → ((a ≡ true) × (x ≡ Some z)) ⊎ ((b ≡ true) × (y ≡ Some z))

@@ -1,6 +1,7 @@
 mod AcceptorLaws
 mod Agreement
 mod BallotOrder
+mod ChainFound
 mod ChainLaws
 mod EntryLaws
 mod EvenPlan
@@ -12,7 +13,6 @@ mod Masters
 mod OneSight
 mod PlanLaws
 mod PlanRules
-mod ReadingSteps
 mod RecordLaws
 mod RowsFilled
 mod RowsRead

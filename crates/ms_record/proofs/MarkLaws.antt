@@ -3,14 +3,14 @@ use Rattle.std.proofs.Common.{◌≡◌, ℕ, List, [], ◌∷◌, ◌++◌, Opt
 use Rattle.std.specs.Prelude.{IfSome, ◌==◌}
 use Rattle.std.specs.Int.{w32, to_be_bytes}
 use Rattle.std.proofs.lemmas.Bool.{eqb-true}
-use Rattle.ms_base.specs.Options.{◌>>=◌}
+use Rattle.ms_base.specs.Places.{some_same}
+use Rattle.ms_base.specs.Options.{◌>>=◌, bind_some}
 use Rattle.ms_base.specs.declared.limits.TheConstants.{LAST_NUMBER}
 use Rattle.ms_base.specs.declared.names.Name.{Name}
 use Rattle.ms_base.specs.Fields.{IsBytes, number_at, number_within, name_at, at_end}
-use Rattle.ms_base.specs.FieldLaws.{Takes, FieldsRead, FieldsSpelled}
+use Rattle.ms_base.specs.FieldLaws.{Takes, FieldsRead, FieldsSpelled, ended, IsBytes-rest, Takes-then}
 use Rattle.ms_record.specs.declared.mark.RefMark.{RefMark}
 use Rattle.ms_record.specs.Marks.{IsMark, mark_text, marked_at, tagged_mark_at, mark_at}
-use Rattle.ms_record.proofs.ReadingSteps.{bind_some, some_is, ended, IsBytes-rest, Takes-then}
 
 abbrev mark_of : ℕ → ℕ → Name → RefMark
 mark_of number position name = record { number = number; position = position; name = name }
@@ -34,7 +34,7 @@ marked_takes law text x fits e =
     let t2 = law.name p.0.1 b.0 t1.0.bytes b.1 in
     let front = Takes-then text (to_be_bytes w32 n.0.0) n.0.1 (to_be_bytes w32 p.0.0) p.0.1 t0.0 t1.0 in
     let made : RefMark × List ℕ = (mark_of n.0.0 p.0.0 b.0.0, b.0.1) in
-    subst (λ (y : RefMark × List ℕ). Takes text (rest_text y.0) y.1 × IsMark y.0) (some_is made x b.2)
+    subst (λ (y : RefMark × List ℕ). Takes text (rest_text y.0) y.1 × IsMark y.0) (some_same made x b.2)
     (Takes-then text (to_be_bytes w32 n.0.0 ++ to_be_bytes w32 p.0.0) p.0.1 b.0.0.0 b.0.1 front t2.0, record { number = t0.1; position = t1.2; name = t2.1 })
 
 marked_again : FieldsRead → (m : RefMark) → IsMark m → marked_at (rest_text m) ≡ Some (m, [])

@@ -4,15 +4,15 @@ use Rattle.std.specs.Int.{w32, w64, to_be_bytes}
 use Rattle.std.specs.List.{flat_map}
 use Rattle.std.proofs.lemmas.List.Concat.{flat_map-cons}
 use Rattle.std.proofs.lemmas.Option.{same_Some, none-some}
-use Rattle.ms_base.specs.Options.{◌>>=◌}
+use Rattle.ms_base.specs.Places.{some_same}
+use Rattle.ms_base.specs.Options.{◌>>=◌, bind_some}
 use Rattle.ms_base.specs.declared.limits.TheConstants.{SERVICES}
 use Rattle.ms_record.specs.declared.plan.PlanRow.{PlanRow}
 use Rattle.ms_base.specs.Fields.{IsBytes, Field, number_at, number_within}
 use Rattle.ms_record.specs.Plans.{PlanView, IsPlan, plan_of, row_text, plan_text}
 use Rattle.ms_record.specs.PlanTests.{plan_if}
 use Rattle.ms_record.specs.Reading.{row_at, rows_at, plan_at}
-use Rattle.ms_base.specs.FieldLaws.{Takes, FieldsRead, FieldsSpelled}
-use Rattle.ms_record.proofs.ReadingSteps.{bind_some, some_is, Takes-then}
+use Rattle.ms_base.specs.FieldLaws.{Takes, FieldsRead, FieldsSpelled, Takes-then}
 use Rattle.ms_record.proofs.PlanRules.{plan_if_given, plan_if_keeps}
 
 -- ---- rows
@@ -37,7 +37,7 @@ row_takes law text x fits e =
     let t0 = law.four text a.0 fits a.1 in
     let t1 = law.eight a.0.1 b.0 t0.0.bytes b.1 in
     let made : PlanRow × List ℕ = (record { service = record { 0 = a.0.0 }; capacity = b.0.0 }, b.0.1) in
-    subst (λ (y : PlanRow × List ℕ). Takes text (row_text y.0) y.1 × Fits y.0) (some_is made x b.2)
+    subst (λ (y : PlanRow × List ℕ). Takes text (row_text y.0) y.1 × Fits y.0) (some_same made x b.2)
     (Takes-then text (to_be_bytes w32 a.0.0) a.0.1 (to_be_bytes w64 b.0.0) b.0.1 t0.0 t1.0, record { service = t0.1; capacity = t1.1 })
 
 row_again : FieldsRead → (row : PlanRow) (rest : List ℕ) → Fits row → row_at (row_text row ++ rest) ≡ Some (row, rest)
@@ -50,7 +50,7 @@ rows_take : FieldsSpelled → (n : ℕ) (text : List ℕ) (x : List PlanRow × L
 unfolding rows_at
 rows_take law zero text x fits e =
     let none : AllFit [] = λ i row h. absurd (none-some row h) in
-    subst (λ (y : List PlanRow × List ℕ). Takes text (flat_map row_text y.0) y.1 × (length y.0 ≡ 0) × AllFit y.0) (some_is ([], text) x e) (record { parts = refl; bytes = fits }, refl, none)
+    subst (λ (y : List PlanRow × List ℕ). Takes text (flat_map row_text y.0) y.1 × (length y.0 ≡ 0) × AllFit y.0) (some_same ([], text) x e) (record { parts = refl; bytes = fits }, refl, none)
 rows_take law (suc n) text x fits e =
     let a = bind_some (row_at text) (λ first. rows_at n first.1 >>= λ others. Some (first.0 ∷ others.0, others.1)) x e in
     let b = bind_some (rows_at n a.0.1) (λ others. Some (a.0.0 ∷ others.0, others.1)) x a.2 in
@@ -58,7 +58,7 @@ rows_take law (suc n) text x fits e =
     let others = rows_take law n a.0.1 b.0 first.0.bytes b.1 in
     let whole = Takes-then text (row_text a.0.0) a.0.1 (flat_map row_text b.0.0) b.0.1 first.0 others.0 in
     let made : List PlanRow × List ℕ = (a.0.0 ∷ b.0.0, b.0.1) in
-    subst (λ (y : List PlanRow × List ℕ). Takes text (flat_map row_text y.0) y.1 × (length y.0 ≡ suc n) × AllFit y.0) (some_is made x b.2)
+    subst (λ (y : List PlanRow × List ℕ). Takes text (flat_map row_text y.0) y.1 × (length y.0 ≡ suc n) × AllFit y.0) (some_same made x b.2)
     (rw flat_map-cons whole, ap suc others.1, AllFit-cons a.0.0 b.0.0 first.1 others.2)
 
 rows_again : FieldsRead → (rows : List PlanRow) (rest : List ℕ) → AllFit rows → rows_at (length rows) (flat_map row_text rows ++ rest) ≡ Some (rows, rest)
@@ -100,7 +100,7 @@ with_plan_takes generation format replicas unit text rows x fits rows_fit takes 
     let made : PlanView = plan_of generation format replicas unit rows.0 in
     let plan = bind_some (plan_if made) (λ p. some_plan p rows.1) x e in
     let kept = plan_if_given made plan.0 fits (λ i row h. (rows_fit i row h).capacity) plan.1 in
-    let is : (plan.0, rows.1) ≡ x = some_is (plan.0, rows.1) x plan.2 in
+    let is : (plan.0, rows.1) ≡ x = some_same (plan.0, rows.1) x plan.2 in
     let same : made ≡ x.0 = kept.0 ∙ ap (λ (y : PlanView × List ℕ). y.0) is in
     record { rows = rows.0; is = same; takes = subst (λ (t : List ℕ). Takes text (to_be_bytes w32 (length rows.0) ++ flat_map row_text rows.0) t) (ap (λ (y : PlanView × List ℕ). y.1) is) takes; kept = subst IsPlan same kept.1 }
 

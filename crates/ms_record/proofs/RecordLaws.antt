@@ -3,7 +3,8 @@ use Rattle.std.proofs.Common.{◌≡◌, ℕ, List, [], ◌∷◌, ◌++◌, Opt
 use Rattle.std.specs.Prelude.{IfSome, ◌==◌}
 use Rattle.std.specs.Int.{w32, to_be_bytes}
 use Rattle.std.proofs.lemmas.Bool.{eqb-true}
-use Rattle.ms_base.specs.Options.{◌>>=◌}
+use Rattle.ms_base.specs.Places.{some_same}
+use Rattle.ms_base.specs.Options.{◌>>=◌, bind_some}
 use Rattle.ms_base.specs.declared.limits.TheConstants.{LAST_NUMBER}
 use Rattle.ms_record.specs.declared.ballot.Ballot.{Ballot}
 use Rattle.ms_record.specs.declared.entry.Entry.{Entry}
@@ -13,8 +14,7 @@ use Rattle.ms_base.specs.Fields.{IsBytes, number_within, client_at, at_end}
 use Rattle.ms_record.specs.Entries.{IsEntry, entry_text}
 use Rattle.ms_record.specs.Records.{IsBallot, IsPosition, IsRecord, ballot_text, record_text}
 use Rattle.ms_record.specs.Reading.{entry_at, ballot_at, ending_at, record_at}
-use Rattle.ms_base.specs.FieldLaws.{Takes, FieldsRead, FieldsSpelled}
-use Rattle.ms_record.proofs.ReadingSteps.{bind_some, some_is, ended, IsBytes-rest, Takes-then}
+use Rattle.ms_base.specs.FieldLaws.{Takes, FieldsRead, FieldsSpelled, ended, IsBytes-rest, Takes-then}
 use Rattle.ms_record.proofs.EntryLaws.{either_some, entry_is_read, entry_is_read_again}
 
 ballot_takes : FieldsSpelled → (text : List ℕ) (x : Ballot × List ℕ) → IsBytes text → ballot_at text ≡ Some x → Takes text (ballot_text x.0) x.1 × IsBallot x.0
@@ -25,7 +25,7 @@ ballot_takes law text x fits e =
     let t0 = law.within 1 LAST_NUMBER text r.0 fits r.1 in
     let t1 = law.client r.0.1 c.0 t0.0.bytes c.1 in
     let made : Ballot × List ℕ = (record { round = r.0.0; client = c.0.0 }, c.0.1) in
-    subst (λ (y : Ballot × List ℕ). Takes text (ballot_text y.0) y.1 × IsBallot y.0) (some_is made x c.2)
+    subst (λ (y : Ballot × List ℕ). Takes text (ballot_text y.0) y.1 × IsBallot y.0) (some_same made x c.2)
     (Takes-then text (to_be_bytes w32 r.0.0) r.0.1 (to_be_bytes w32 c.0.0.0) c.0.1 t0.0 t1.0, record { some_round = t0.1; last_round = t0.2; client = t1.1 })
 
 ballot_again : FieldsRead → (b : Ballot) (rest : List ℕ) → IsBallot b → ballot_at (ballot_text b ++ rest) ≡ Some (b, rest)
@@ -65,7 +65,7 @@ ends_record law tag k b text r fits e =
       | inl h ↦ ends_prepare tag k b text r (eqb-true tag 80 h.0) (ended (Prepare k b, text) r h.1)
       | inr h ↦
           let a = bind_some (entry_at text) (λ entry. Some (Accept k b entry)) r h.1 in
-          ends_accept tag k b text r a.0 (eqb-true tag 65 h.0) (some_is (Accept k b a.0) r a.2) (entry_is_read law text a.0 fits a.1)
+          ends_accept tag k b text r a.0 (eqb-true tag 65 h.0) (some_same (Accept k b a.0) r a.2) (entry_is_read law text a.0 fits a.1)
     ]
 
 pub record_is_read : FieldsSpelled → (text : List ℕ) (r : Record) → IsBytes text → record_at text ≡ Some r → IsRecord r × (text ≡ record_text r)

@@ -36,3 +36,10 @@ at_most_trans a b c l m = grind arith
 
 pub below_at_most : (b c : Ballot) → IsBelow b c → IsAtMost b c
 below_at_most b c l = grind arith
+
+-- of two ballots neither of which is greater
+pub one_ballot : (b c : Ballot) → IsAtMost b c → IsAtMost c b → b ≡ c
+one_ballot b c h k =
+    let rounds : b.round ≡ c.round = omega (arith, h.0, k.0) in
+    let clients : b.client.0 ≡ c.client.0 = omega (arith, h.1 rounds, k.1 (sym rounds)) in
+    same_ballot b c rounds clients

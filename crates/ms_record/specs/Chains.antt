@@ -95,6 +95,10 @@ pub record IsNext (votes : ℕ → List Record) (origin : Origin) (position : �
 abbrev pub AllNext : (ℕ → List Record) → Origin → Type 0
 AllNext votes origin = (k : ℕ) (e : Entry) → IsChosen votes origin k e → IsNext votes origin k e
 
+-- what is chosen behind a linked list links on to it
+abbrev pub AllLink : (ℕ → List Record) → Origin → Type 0
+AllLink votes origin = (c : List Entry) (e : Entry) → IsLinked votes origin c → ChosenBy votes (voters_behind origin c) (length c + 1) e → LinksBehind origin c e
+
 -- one list begins the other
 abbrev pub Begins : List Entry → List Entry → Type 0
 Begins xs ys = (more : List Entry) × (xs ++ more ≡ ys)

@@ -21,3 +21,9 @@ pub mod ServicesInside
 pub mod Settings
 pub mod Growing
 pub mod Items
+pub mod Voters
+pub mod InForce
+pub mod ListTexts
+pub mod ChainLaws
+pub mod Floors
+pub mod OneBest

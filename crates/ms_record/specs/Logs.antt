@@ -25,7 +25,11 @@ votes_in log = votes_of (vote_texts log)
 abbrev pub HasPut : List LogEvent → ℕ → Name → Type 0
 HasPut log generation name = (text : List ℕ) × Contains log (Put generation name text)
 
+-- the log has no drop above the generation
+abbrev pub NoDropAbove : List LogEvent → ℕ → Type 0
+NoDropAbove log generation = (floor : ℕ) → Contains log (Drop floor) → floor ≤ generation
+
 -- a put of that name in that generation stands: it is there, and no drop above the generation
 pub record Stands (log : List LogEvent) (generation : ℕ) (name : Name) : Type 0 where
   pub put : HasPut log generation name
-  pub kept : (floor : ℕ) → Contains log (Drop floor) → floor ≤ generation
+  pub kept : NoDropAbove log generation

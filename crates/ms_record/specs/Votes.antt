@@ -60,3 +60,7 @@ pub record ChosenBy (votes : ℕ → List Record) (voters : List ℕ) (position 
 -- the services are numbered from 0
 abbrev pub services_below : ℕ → List ℕ
 services_below n = range_with_len 0 n
+
+-- Accepts of one ballot at one position have one entry
+abbrev pub HaveOne : (ℕ → List Record) → Type 0
+HaveOne votes = (s t i j k : ℕ) (b : Ballot) (e f : Entry) → slice_get (votes s) i ≡ Some (Accept k b e) → slice_get (votes t) j ≡ Some (Accept k b f) → e ≡ f

@@ -7,9 +7,13 @@ ghost use Rattle.ms_record.specs.declared.record.Record.{Record};
 ghost use Rattle.ms_record.specs.declared.ballot.Vote.{Vote};
 ghost use Rattle.std.specs.Prelude.{Option};
 ghost use Rattle.ms_record.specs.Ballots.{IsBelow};
-ghost use Rattle.ms_record.specs.Chains.{Origin, IsLinked, IsChain, IsChosen, AgreesAt, Agrees, AllNext, Begins, LinksBehind, voters_behind};
+ghost use Rattle.ms_record.specs.ChainLaws.{ChainLaws};
+ghost use Rattle.ms_record.specs.Chains.{Origin, IsLinked, IsChain, IsChosen, AgreesAt, Agrees, AllLink, AllNext, Begins, LinksBehind, voters_behind};
 ghost use Rattle.ms_record.specs.Offers.{GrowsTo, IsFirstPromised, IsJustified, IsOffered, IsSound, IsSoundAt, JustifiedBy};
-ghost use Rattle.ms_record.specs.Votes.{ChosenBy, IsBest, IsPromised, IsTaken};
+ghost use Rattle.ms_record.specs.Voters.{AreKnown};
+ghost use Rattle.ms_record.specs.Votes.{ChosenBy, HaveOne, IsBest, IsPromised, IsTaken};
+
+use crate::record::one_spelling;
 
 /// The ballot induction, for any voters: where each ballot has one offer at the position, what was taken was offered,
 /// and each offer is justified, each offer under a greater ballot than that of a chosen entry carries that entry.
@@ -57,7 +61,8 @@ pub fn masters_stay()
 
 /// Linked lists. None is linked; a linked list goes on by an entry that is chosen behind it and links on; its front is
 /// linked, and its members are chosen. Where two chosen entries of one position are one, linked lists begin one
-/// another; and where each chosen entry links on to the members before it, each stands in the chain.
+/// another; and where each chosen entry links on to the members before it, each stands in the chain. There is a chain where
+/// a ballot has one entry at a position, the services of the first plan are known, and what is chosen links on.
 pub fn one_chain()
     ensures none { (votes : ℕ → List Record) (origin : Origin) → IsLinked votes origin [] }
     ensures goes_on { (votes : ℕ → List Record) (origin : Origin) (c : List Entry) (e : Entry) → IsLinked votes origin c
@@ -75,4 +80,16 @@ pub fn one_chain()
         → Agrees votes origin → IsLinked votes origin c → IsLinked votes origin d → length c ≡ length d → c ≡ d }
     ensures stands { (votes : ℕ → List Record) (origin : Origin) (chain : List Entry) (i : ℕ) (e : Entry)
         → Agrees votes origin → AllNext votes origin → IsChain votes origin chain → IsChosen votes origin (i + 1) e → slice_get chain i ≡ Some e }
+    ensures found { (votes : ℕ → List Record) (origin : Origin)
+        → HaveOne votes → Agrees votes origin → AreKnown origin.services origin.plan → AllLink votes origin
+        → (chain : List Entry) × IsChain votes origin chain }
 {}
+
+/// The laws of chains in one value, for crates above whose proofs stand on them.
+pub fn chain_laws()
+    ensures { ChainLaws }
+{
+    masters_agree();
+    one_chain();
+    one_spelling();
+}

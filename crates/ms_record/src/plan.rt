@@ -48,7 +48,7 @@ impl Model for Plan {
 pub(crate) const MOST_ROWS: usize = SERVICES as usize;
 
 /// The last format.
-pub(crate) const LAST_FORMAT: u32 = 2;
+pub const LAST_FORMAT: u32 = 2;
 
 /// Stands at the places of a plan that have no row.
 pub(crate) const NO_ROW: PlanRow = PlanRow {

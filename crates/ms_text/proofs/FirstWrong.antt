@@ -1,14 +1,9 @@
 -- The line that reading answers is the first wrong one.
 use Rattle.std.proofs.Common.{◌≡◌, ℕ, ◌+◌, List, [], ◌∷◌, ◌++◌, Option, Some, None, Result, Ok, Err, ◌⊎◌, inl, inr, refl, sym, ap, ◌∙◌, length, append-nil, arith}
 use Rattle.std.specs.Option.{option_and_then}
+use Rattle.ms_base.specs.Places.{some_same}
 use Rattle.ms_text.specs.Lines.{read_lines, or_wrong, on_or_wrong}
 use Rattle.ms_text.specs.Firsts.{after_lines, CanEnd, FirstLaws, IsFirstCut, IsFirstWrong, Says}
-
-abbrev given : {A : Type 0} → A → Option A
-given x = Some x
-
-some_same : {A : Type 0} (x y : A) → given x ≡ given y → x ≡ y
-some_same x y e = cc
 
 goes_on_by : {A B : Type 0} (o : Option A) (f : A → Option B) (y : B) → option_and_then f o ≡ Some y → (x : A) × (o ≡ Some x) × (f x ≡ Some y)
 goes_on_by (Some x) f y e = (x, refl, e)

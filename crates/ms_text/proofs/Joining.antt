@@ -6,13 +6,8 @@ use Rattle.std.specs.Option.{option_map}
 use Rattle.std.proofs.lemmas.Bool.{eqb-true}
 use Rattle.std.proofs.lemmas.List.{take_at, get_or-take, length-take}
 use Rattle.std.proofs.lemmas.List.Quantifiers.{position-Some}
+use Rattle.ms_base.specs.Places.{some_same}
 use Rattle.ms_text.specs.Words.{HasNoSpace, WordsAreJoined, two_words}
-
-abbrev given : {A : Type 0} → A → Option A
-given x = Some x
-
-pair_is : (x y : List ℕ × List ℕ) → given x ≡ given y → x ≡ y
-pair_is x y e = cc
 
 abbrev is_space : ℕ → Bool
 is_space b = b == 32
@@ -52,7 +47,7 @@ cut_at line (Some at) first rest is e =
     let whole : line ≡ take at line ++ 32 ∷ drop (at + 1) line =
     sym (take-append-drop at line) ∙ ap (λ (r : List ℕ). take at line ++ r) (drop-cons line at 0 p.0 ∙ ap (λ (b : ℕ). b ∷ drop (suc at) line) here ∙ ap (λ (n : ℕ). 32 ∷ drop n line) (sym (add-one at))) in
     let clear : HasNoSpace (take at line) = λ i l s. clash (get_or line i 0) (p.2 i (before at i line l)) (sym (get_or-take at line i 0 (before at i line l)) ∙ s) in
-    subst (λ (w : List ℕ × List ℕ). (line ≡ w.0 ++ 32 ∷ w.1) × HasNoSpace w.0) (pair_is (take at line, drop (at + 1) line) (first, rest) e) (whole, clear)
+    subst (λ (w : List ℕ × List ℕ). (line ≡ w.0 ++ 32 ∷ w.1) × HasNoSpace w.0) (some_same (take at line, drop (at + 1) line) (first, rest) e) (whole, clear)
   where
     clash : (b : ℕ) → is_space b ≡ false → b ≡ 32 → ⊥
     clash b f e = let g : is_space b ≡ true = rw e refl in absurd cc

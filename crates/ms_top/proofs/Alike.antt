@@ -151,7 +151,7 @@ pub record Outcomes : Type 0 where
   pub step : (setting : Setting) (w : WorldView) (event : Event) (a b : WorldView) → IsSetting setting → IsReached setting w → Step setting w event a → Step setting w event b → a ≡ b
   pub refusal : (setting : Setting) (w : WorldView) (event : Event) (x y : Why) → IsRefused setting w event x → IsRefused setting w event y → x ≡ y
   pub apart : (setting : Setting) (w next : WorldView) (event : Event) (why : Why) → Step setting w event next → IsRefused setting w event why → ⊥
-  pub agrees : (setting : Setting) (events : List Event) (w : WorldView) → IsSetting setting → All IsEvent events → IsRun setting events w → Agrees (votes_of_world w) (origin_of setting)
+  pub agrees : (setting : Setting) (w : WorldView) → IsSetting setting → IsReached setting w → Agrees (votes_of_world w) (origin_of setting)
   pub one_list : (votes : ℕ → List Record) (origin : Origin) (c d : List Entry) → Agrees votes origin → IsLinked votes origin c → IsLinked votes origin d → length c ≡ length d → c ≡ d
 
 module _ (laws : Outcomes) (drill : DrillOf) where
@@ -163,7 +163,7 @@ module _ (laws : Outcomes) (drill : DrillOf) where
       let set = a.ranges.setting in
       let fit = a.ranges.events in
       let same : a.world ≡ b.world = one_world laws.step laws.refusal laws.apart drill.setting set drill.events (start_world drill.setting) a.world b.world fit begun a.run b.run in
-      let agrees = laws.agrees drill.setting drill.events b.world set fit b.run in
+      let agrees = laws.agrees drill.setting b.world set (record { events = drill.events; fit = fit; run = b.run }) in
       let chain : IsChain (votes_of_world b.world) (origin_of drill.setting) es = subst (λ (w : WorldView). IsChain (votes_of_world w) (origin_of drill.setting) es) same a.chain in
       drill_one g h es fs ks ls (name_one g h (a.genesis_is ∙ sym b.genesis_is))
       (longest_one (votes_of_world b.world) (origin_of drill.setting) es fs (λ c d. laws.one_list (votes_of_world b.world) (origin_of drill.setting) c d agrees) chain b.chain)

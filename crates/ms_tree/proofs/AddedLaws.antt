@@ -9,6 +9,8 @@ use Rattle.std.proofs.lemmas.Bool.{le-ltb}
 use Rattle.std.proofs.lemmas.List.Elements.{All-head, All-tail, All-contains}
 use Rattle.std.proofs.lemmas.Map.Views.{All-keys-insert_entry}
 use Rattle.std.proofs.lemmas.Slice.Eq.{bytes_eq-Decides}
+use Rattle.ms_base.specs.Places.{all_from, in_cases, in_none}
+use Rattle.ms_base.specs.Rising.{Rises, Before, rises_none, rises_cons, rises_first, rises_rest}
 use Rattle.ms_base.specs.declared.names.Quantity.TheVariants as quantities
 use Rattle.ms_tree.specs.declared.limits.FilesError.TheVariants as errors
 use Rattle.ms_tree.specs.Paths.{parts_of, long_part, is_path, is_directory_of}
@@ -17,7 +19,6 @@ use Rattle.ms_tree.proofs.PathLaws.{path_Decides, directory_Decides}
 use Rattle.ms_tree.proofs.FileLaws.{text_at-with_file}
 use Rattle.ms_tree.proofs.ClashLaws.{some_at}
 use Rattle.ms_tree.proofs.KeptLaws.{within_fits, IsAllowed, allowed_from_added, with_file_IsFiles}
-use Rattle.ms_tree.proofs.Members.{Rises, Before, all_from, in_cases, in_none, rises_none, rises_cons, rises_first, rises_rest}
 
 -- ---- a file more keeps the order
 

@@ -4,6 +4,7 @@ use Rattle.std.specs.List.{position_or_len}
 use Rattle.std.proofs.lemmas.List.{get_or-map, length-map, take_more, map-append}
 use Rattle.std.proofs.lemmas.List.Elements.{All-contains, All-cons, All-head, All-tail, Contains-get_or}
 use Rattle.std.proofs.lemmas.Grind.{flat_map-append}
+use Rattle.ms_base.specs.Places.{in_here, all_from}
 use Rattle.ms_object.specs.declared.format.Format.{Format}
 use Rattle.ms_object.specs.declared.object.SizedRow.{SizedRow}
 use Rattle.ms_object.specs.Labels.{IsLabel}
@@ -18,7 +19,7 @@ use Rattle.ms_tree.proofs.Cutting.{IsClear, first_part_clear}
 use Rattle.ms_tree.proofs.FirstParts.{part_of, part_from}
 use Rattle.ms_tree.proofs.Groups.{begins, folder_filter, tested_same, same_tested}
 use Rattle.ms_tree.proofs.Inside.{file_at_group, files_below_group, label_first}
-use Rattle.ms_tree.proofs.Members.{in_here, all_from, map_from, filter_from, filter_has}
+use Rattle.ms_tree.proofs.Members.{map_from, filter_from, filter_has}
 use Rattle.ms_tree.proofs.PlantedTree.{rows_at, dir_is, directory_is}
 use Rattle.ms_tree.proofs.Runs.{Group}
 use Rattle.ms_tree.proofs.Stored.{adds_none, adds_more}

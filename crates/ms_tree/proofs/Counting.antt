@@ -8,12 +8,14 @@ use Rattle.std.proofs.lemmas.List.{length-map}
 use Rattle.std.proofs.lemmas.List.Elements.{All-from_recursion, All-contains}
 use Rattle.std.proofs.lemmas.Map.Keys.{sorted_head, sorted_tail}
 use Rattle.sha2.specs.Sha256.{sha256}
+use Rattle.ms_base.specs.Rising.{Rises, Before, not_both_ways, rises_none, rises_cons, rises_first, rises_rest}
+use Rattle.ms_base.specs.Places.{in_none, in_here, in_later, in_cases, map_has}
 use Rattle.ms_base.specs.declared.names.Name.{Name}
 use Rattle.ms_object.specs.Stores.{StoreView, name_cmp, names_in, text_of}
 use Rattle.ms_tree.specs.Planting.{with_part, Collide, HoldsTexts, different}
 use Rattle.ms_tree.proofs.FirstParts.{with_part_cases, with_part_has, with_part_keeps, with_part_rises}
 use Rattle.ms_tree.proofs.Groups.{tested_same, tested_other}
-use Rattle.ms_tree.proofs.Members.{in_none, in_here, in_later, in_cases, map_has, map_from, Rises, Before, not_both_ways, rises_none, rises_cons, rises_first, rises_rest, same_rising}
+use Rattle.ms_tree.proofs.Members.{map_from, same_rising}
 use Rattle.ms_tree.proofs.PlantedFile.{Has}
 use Rattle.ms_tree.proofs.PlantedTree.{collide_or_has}
 

@@ -4,9 +4,11 @@ use Rattle.std.specs.Cmp.Lexicographic.{slice_cmp}
 use Rattle.std.proofs.lemmas.Bool.{cond_both}
 use Rattle.std.proofs.lemmas.Cmp.{nat_list_cmp_total}
 use Rattle.std.proofs.lemmas.Slice.Eq.{bytes_eq-Decides}
+use Rattle.ms_base.specs.Rising.{Rises, Before, rises_none, rises_cons, rises_first, rises_rest}
+use Rattle.ms_base.specs.Places.{in_none, in_here, in_later, in_cases}
 use Rattle.ms_object.specs.Trees.{FileText}
 use Rattle.ms_tree.specs.Planting.{with_part, first_parts, first_part}
-use Rattle.ms_tree.proofs.Members.{in_none, in_here, in_later, in_cases, Rises, Before, one_is_before, rises_none, rises_cons, rises_first, rises_rest, same_rising}
+use Rattle.ms_tree.proofs.Members.{one_is_before, same_rising}
 
 later_too : (part first q : List ℕ) (parts : List (List ℕ)) → (part ≡ q) ⊎ Contains parts q → (part ≡ q) ⊎ Contains (first ∷ parts) q
 later_too part first q parts (inl e) = inl e

@@ -3,10 +3,11 @@ use Rattle.std.proofs.Common.{◌≡◌, ℕ, true, false, List, [], ◌∷◌, 
 use Rattle.std.specs.List.{flat_map}
 use Rattle.std.proofs.lemmas.Bool.{false_from_ne_true}
 use Rattle.std.proofs.lemmas.List.Sorted.{IsPermutation-refl, IsPermutation-middle, IsPermutation-cons, IsPermutation-trans}
+use Rattle.ms_base.specs.Rising.{Rises, Before, not_before_itself, rises_first, rises_rest}
+use Rattle.ms_base.specs.Places.{in_none, in_here, in_later, in_cases}
 use Rattle.ms_object.specs.Trees.{FileText}
 use Rattle.ms_tree.specs.Planting.{first_part}
 use Rattle.ms_tree.specs.Folders.{in_part}
-use Rattle.ms_tree.proofs.Members.{in_none, in_here, in_later, in_cases, Rises, Before, not_before_itself, rises_first, rises_rest}
 use Rattle.ms_tree.proofs.FirstParts.{part_of}
 use Rattle.ms_tree.proofs.Groups.{same_tested, tested_same}
 

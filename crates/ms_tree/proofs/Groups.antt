@@ -5,12 +5,14 @@ use Rattle.std.proofs.lemmas.Cmp.{nat_list_cmp_total}
 use Rattle.std.proofs.lemmas.List.Elements.{All-filter, All-tail}
 use Rattle.std.proofs.lemmas.List.Sums.{take_while-cons, length-filter, count_by-le-length}
 use Rattle.std.proofs.lemmas.Slice.Eq.{bytes_eq-Decides}
+use Rattle.ms_base.specs.Rising.{Rises, Before, not_before_itself, rises_cons, rises_first, rises_rest}
+use Rattle.ms_base.specs.Places.{in_here, in_later, map_has}
 use Rattle.ms_object.specs.declared.format.Format.{Format}
 use Rattle.ms_object.specs.Trees.{FileText}
 use Rattle.ms_tree.specs.Paths.{IsDirectoryOf}
 use Rattle.ms_tree.specs.Planting.{first_part}
 use Rattle.ms_tree.specs.Folders.{IsFolder, IsFileBelow, in_part}
-use Rattle.ms_tree.proofs.Members.{in_here, in_later, Rises, Before, not_before_itself, rises_cons, rises_first, rises_rest, map_has, map_from, filter_from, filter_none}
+use Rattle.ms_tree.proofs.Members.{map_from, filter_from, filter_none}
 use Rattle.ms_tree.proofs.Cutting.{rest_of, path_cases, first_part_clear, first_part_of}
 use Rattle.ms_tree.proofs.Order.{between}
 use Rattle.ms_tree.proofs.FirstParts.{part_of}

@@ -5,13 +5,15 @@ use Rattle.std.proofs.lemmas.Bool.{cases_Bool, false_from_ne_true}
 use Rattle.std.proofs.lemmas.List.{length-map}
 use Rattle.std.proofs.lemmas.List.Elements.{All-head, All-tail, All-contains}
 use Rattle.std.proofs.lemmas.List.Splits.{slice_split_none, slice_split_at}
+use Rattle.ms_base.specs.Rising.{Rises, Before, not_before_itself, rises_none, rises_cons, rises_first, rises_rest}
+use Rattle.ms_base.specs.Places.{in_here, in_later, all_from, map_has}
 use Rattle.ms_object.specs.declared.format.Format.{Format}
 use Rattle.ms_object.specs.Labels.{IsLabel}
 use Rattle.ms_object.specs.Trees.{FileText}
 use Rattle.ms_tree.specs.Paths.{parts_of}
 use Rattle.ms_tree.specs.Planting.{first_part, file_at, files_below, below}
 use Rattle.ms_tree.specs.Folders.{IsFolder, IsFileBelow, in_part, cut_file, cut_files}
-use Rattle.ms_tree.proofs.Members.{in_here, in_later, all_from, Rises, Before, not_before_itself, rises_none, rises_cons, rises_first, rises_rest, map_has, map_from}
+use Rattle.ms_tree.proofs.Members.{map_from}
 use Rattle.ms_tree.proofs.Cutting.{IsClear, rest_of, path_cases, first_part_clear, first_part_of, first_part_alone}
 use Rattle.ms_tree.proofs.Order.{before_behind}
 use Rattle.ms_tree.proofs.FirstParts.{part_of}

@@ -8,10 +8,10 @@ use Rattle.std.proofs.lemmas.List.Elements.{Contains-append_left, Contains-appen
 use Rattle.std.proofs.lemmas.List.Sorted.{length_permutation, Contains-permutation, IsPermutation-sym}
 use Rattle.std.proofs.lemmas.List.Sums.{sum_by-append}
 use Rattle.std.proofs.lemmas.Map.Entries.{sum_by_values_permutation}
+use Rattle.ms_base.specs.Places.{in_none, in_here, in_later, in_cases}
 use Rattle.ms_object.specs.Trees.{FileText, Met, bytes_met, first_fault}
 use Rattle.ms_tree.specs.Files.{total_of}
 use Rattle.ms_tree.proofs.Faults.{bytes_append}
-use Rattle.ms_tree.proofs.Members.{in_none, in_here, in_later, in_cases}
 
 -- the files are met, each once, and no fault
 pub record Meets (files : List FileText) (met : List Met) : Type 0 where

@@ -8,32 +8,8 @@ use Rattle.std.proofs.lemmas.Cmp.{nat_list_cmp_total, tied_itself}
 use Rattle.std.proofs.lemmas.List.Elements.{All-from_recursion, recursion_from_All, All-contains, Contains-get_or}
 use Rattle.std.proofs.lemmas.Map.Keys.{sorted_head, sorted_tail}
 use Rattle.std.proofs.lemmas.Map.Text.{is_eq-slice_cmp}
-
-pub in_none : {X : Type 0} (x : X) → Contains [] x → ⊥
-in_none x (k, below, here) = omega arith
-
-pub in_here : {X : Type 0} (x : X) (xs : List X) → Contains (x ∷ xs) x
-in_here x xs = (0, omega arith, refl)
-
-pub in_later : {X : Type 0} (x : X) (xs : List X) (y : X) → Contains xs y → Contains (x ∷ xs) y
-in_later x xs y (k, below, here) = (suc k, omega arith, here)
-
-pub in_cases : {X : Type 0} (x : X) (xs : List X) (y : X) → Contains (x ∷ xs) y → (x ≡ y) ⊎ Contains xs y
-in_cases x xs y (zero, below, here) = inl here
-in_cases x xs y (suc k, below, here) = inr (k, omega arith, here)
-
--- texts that rise strictly, by bytes
-abbrev pub Rises : List (List ℕ) → Type 0
-Rises = IsStrictlySortedBy (slice_cmp nat_cmp)
-
-abbrev pub Before : List ℕ → List ℕ → Type 0
-Before x y = slice_cmp nat_cmp x y ≡ Less
-
-pub not_before_itself : (x : List ℕ) → Before x x → ⊥
-not_before_itself x h = let e : Less ≡ Equal = sym h ∙ tied_itself nat_list_cmp_total x in cc
-
-pub not_both_ways : (x y : List ℕ) → Before x y → Before y x → ⊥
-not_both_ways x y h k = not_before_itself x (nat_list_cmp_total.trans x y x h k)
+use Rattle.ms_base.specs.Rising.{Rises, Before, not_before_itself, not_both_ways, rises_first, rises_rest}
+use Rattle.ms_base.specs.Places.{in_none, in_here, in_later, in_cases}
 
 -- of two texts one is before the other, or they are one
 pub one_is_before : (x y : List ℕ) → bytes_eq x y ≡ false → is_lt (slice_cmp nat_cmp x y) ≡ false → Before y x
@@ -43,20 +19,6 @@ one_is_before x y ne nl = by (slice_cmp nat_cmp x y) (slice_cmp nat_cmp y x) (is
     by Less p e l r = cc
     by Equal p e l r = cc
     by Greater p e l r = r
-
-pub rises_none : Rises []
-unfolding IsStrictlySortedBy
-rises_none = tt
-
-pub rises_cons : (x : List ℕ) (xs : List (List ℕ)) → ((y : List ℕ) → Contains xs y → Before x y) → Rises xs → Rises (x ∷ xs)
-unfolding IsStrictlySortedBy
-rises_cons x xs first others = (recursion_from_All (λ y. slice_cmp nat_cmp x y ≡ Less) xs (λ k d below. first _ (Contains-get_or xs k d below)), others)
-
-pub rises_first : (x : List ℕ) (xs : List (List ℕ)) → Rises (x ∷ xs) → (y : List ℕ) → Contains xs y → Before x y
-rises_first x xs h y has = All-contains (λ z. slice_cmp nat_cmp x z ≡ Less) xs y (All-from_recursion _ xs (sorted_head (slice_cmp nat_cmp) x xs h)) has
-
-pub rises_rest : (x : List ℕ) (xs : List (List ℕ)) → Rises (x ∷ xs) → Rises xs
-rises_rest x xs h = sorted_tail (slice_cmp nat_cmp) x xs h
 
 -- the first of two rising lists with the same members
 firsts_meet : (x y : List ℕ) (xs ys : List (List ℕ)) → Rises (x ∷ xs) → Rises (y ∷ ys) → Contains (y ∷ ys) x → Contains (x ∷ xs) y → x ≡ y
@@ -85,15 +47,6 @@ same_rising (x ∷ xs) (y ∷ ys) rx ry there back =
     let back' = subst (λ (z : List ℕ). (q : List ℕ) → Contains (z ∷ ys) q → Contains (x ∷ xs) q) (sym e) back in
     let rest = same_rising xs ys (rises_rest x xs rx) (rises_rest y ys ry) (rest_has x xs ys rx there') (rest_has x ys xs ry' back') in
     ap (λ (z : List ℕ). z ∷ xs) e ∙ ap (λ (zs : List (List ℕ)). y ∷ zs) rest
-
--- what is true of each member
-pub all_from : {X : Type 0} (P : X → Type 0) (xs : List X) → ((x : X) → Contains xs x → P x) → All P xs
-all_from P xs h = λ k d below. h _ (Contains-get_or xs k d below)
-
-pub map_has : {X Y : Type 0} (f : X → Y) (xs : List X) (x : X) → Contains xs x → Contains (map f xs) (f x)
-map_has f [] x h = absurd (in_none x h)
-map_has f (y ∷ ys) x h =
-    elim (in_cases y ys x h) [ inl same ↦ subst (λ z. Contains (f y ∷ map f ys) (f z)) same (in_here (f y) (map f ys)) | inr later ↦ in_later (f y) (map f ys) (f x) (map_has f ys x later) ]
 
 pub map_from : {X Y : Type 0} (f : X → Y) (xs : List X) (y : Y) → Contains (map f xs) y → (x : X) × Contains xs x × (f x ≡ y)
 map_from f [] y h = absurd (in_none y h)

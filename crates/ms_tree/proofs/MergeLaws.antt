@@ -18,6 +18,7 @@ use Rattle.std.proofs.lemmas.Map.Keys.{IsDistinct-from_sorted}
 use Rattle.std.proofs.lemmas.Map.Made.{is_some-lookup}
 use Rattle.std.proofs.lemmas.Map.Views.{Contains-from_lookup, lookup-from_Contains, list_any-from_Contains}
 use Rattle.std.proofs.lemmas.Slice.Eq.{bytes_eq-Decides}
+use Rattle.ms_base.specs.Places.{in_here, in_later, all_from, map_has}
 use Rattle.ms_base.specs.declared.names.Quantity.{Quantity}
 use Rattle.ms_base.specs.declared.names.Quantity.TheVariants as quantities
 use Rattle.ms_tree.specs.Paths.{parts_of, long_part, is_directory_of, IsDirectoryOf}
@@ -27,7 +28,7 @@ use Rattle.ms_tree.proofs.PathLaws.{directory_Decides}
 use Rattle.ms_tree.proofs.FileLaws.{none_at, lookup_by_order}
 use Rattle.ms_tree.proofs.ClashLaws.{some_at}
 use Rattle.ms_tree.proofs.KeptLaws.{all_short}
-use Rattle.ms_tree.proofs.Members.{in_here, in_later, all_from, filter_from, filter_has, map_has}
+use Rattle.ms_tree.proofs.Members.{filter_from, filter_has}
 use Rattle.ms_tree.proofs.OneTree.{rising_same}
 use Rattle.ms_tree.proofs.TaggedPaths.{IsRow, row_of_file, tagged_row, directory_of_tagged}
 use Rattle.ms_tree.proofs.MergeNames.{IsFresh, HasFile, has_file, has_name}

@@ -5,12 +5,12 @@ use Rattle.std.specs.Str.{bytes_eq}
 use Rattle.std.proofs.lemmas.Bool.{false≢true, cases_lt}
 use Rattle.std.proofs.lemmas.List.Folds.{list_any-append}
 use Rattle.std.proofs.lemmas.Slice.Eq.{bytes_eq-Decides}
+use Rattle.ms_base.specs.Places.{in_here, in_later, in_cases, in_none}
 use Rattle.ms_tree.specs.Paths.{is_directory_of, IsDirectoryOf}
 use Rattle.ms_tree.specs.Files.{FileList, text_at}
 use Rattle.ms_tree.specs.Merging.{tagged, is_taken, is_free, IsTagged, AreTagged}
 use Rattle.ms_tree.proofs.PathLaws.{directory_Decides}
 use Rattle.ms_tree.proofs.FileLaws.{none_at}
-use Rattle.ms_tree.proofs.Members.{in_here, in_later, in_cases, in_none}
 
 -- ---- a name that is free
 

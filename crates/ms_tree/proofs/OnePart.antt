@@ -3,6 +3,7 @@ use Rattle.std.proofs.Common.{◌≡◌, ℕ, ◌+◌, ◌-◌, ◌<◌, ◌≤�
 use Rattle.std.specs.List.{position_or_len}
 use Rattle.std.proofs.lemmas.List.{length-map}
 use Rattle.std.proofs.lemmas.List.Elements.{All-contains, Contains-get_or}
+use Rattle.ms_base.specs.Places.{in_none, in_cases, all_from, map_has}
 use Rattle.ms_object.specs.declared.format.Format.{Format}
 use Rattle.ms_base.specs.declared.names.Name.{Name}
 use Rattle.ms_object.specs.declared.format.Format.TheVariants as formats
@@ -17,7 +18,6 @@ use Rattle.ms_tree.specs.Files.{total_of}
 use Rattle.ms_tree.specs.Folders.{AreSmall, IsFolder, IsFileBelow, Reach, cut_files, shown_from}
 use Rattle.ms_tree.proofs.Cutting.{IsClear, rest_of, first_part_clear}
 use Rattle.ms_tree.proofs.Inside.{IsUnder, one_or_under, file_at_one, file_at_under, files_below_under, folder_below}
-use Rattle.ms_tree.proofs.Members.{in_none, in_cases, all_from, map_has}
 
 -- a part of a folder that is shown
 pub record IsPart (format : Format) (left skip : ℕ) (files : List FileRef) (label : List ℕ) : Type 0 where

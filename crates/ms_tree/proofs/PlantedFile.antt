@@ -4,6 +4,7 @@ use Rattle.std.proofs.lemmas.List.{length-map, length-take, length-drop}
 use Rattle.std.proofs.lemmas.List.Elements.{Contains-append_left, Contains-append_right}
 use Rattle.sha2.specs.Sha256.{sha256}
 use Rattle.sha2.proofs.Facts256.{length-sha256}
+use Rattle.ms_base.specs.Places.{in_here, in_later, all_from}
 use Rattle.ms_object.specs.declared.format.Format.{Format}
 use Rattle.ms_base.specs.declared.names.Name.{Name}
 use Rattle.ms_object.specs.declared.fault.GatherError.{GatherError}
@@ -13,7 +14,7 @@ use Rattle.ms_object.specs.Objects.{Spells, IsBlob, IsFile, IsObject, AreNames, 
 use Rattle.ms_object.specs.Reading.{object_at}
 use Rattle.ms_object.specs.Trees.{Texts, or_fault, object_named, blob_of, file_of, blobs_joined, file_named}
 use Rattle.ms_tree.specs.Planting.{named, pieces, blob_texts, file_text}
-use Rattle.ms_tree.proofs.Members.{in_here, in_later, all_from, map_from}
+use Rattle.ms_tree.proofs.Members.{map_from}
 use Rattle.ms_tree.proofs.Named.{named_object, size_right}
 use Rattle.ms_tree.proofs.Pieces.{count_more}
 

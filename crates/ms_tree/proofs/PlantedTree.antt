@@ -11,6 +11,8 @@ use Rattle.std.proofs.lemmas.List.Sorted.{IsPermutation-map}
 use Rattle.std.proofs.lemmas.List.Elements.{Contains-append_left, Contains-append_right, All-contains, All-head, All-tail}
 use Rattle.sha2.specs.Sha256.{sha256}
 use Rattle.sha2.proofs.Facts256.{length-sha256}
+use Rattle.ms_base.specs.Rising.{Rises, rises_none}
+use Rattle.ms_base.specs.Places.{in_none, in_here, in_later, in_cases, all_from, map_has}
 use Rattle.ms_object.specs.declared.format.Format.{Format}
 use Rattle.ms_base.specs.declared.names.Name.{Name}
 use Rattle.ms_object.specs.declared.fault.GatherError.{GatherError}
@@ -30,7 +32,7 @@ use Rattle.ms_tree.proofs.Grouping.{groups_whole}
 use Rattle.ms_tree.proofs.Groups.{begins, folder_filter, tested_same, tested_other, same_tested}
 use Rattle.ms_tree.proofs.Inside.{IsUnder, cut_under, one_or_under, file_at_group, files_below_group, file_at_one, file_at_under, files_below_under, label_first, folder_below}
 use Rattle.ms_tree.proofs.Meeting.{Meets, meets_none, meets_one, meets_each, meets_permuted, meets_same}
-use Rattle.ms_tree.proofs.Members.{in_none, in_here, in_later, in_cases, all_from, map_has, map_from, filter_from, filter_has, Rises, rises_none}
+use Rattle.ms_tree.proofs.Members.{map_from, filter_from, filter_has}
 use Rattle.ms_tree.proofs.PlantedFile.{Reads, Has, object_there, file_there}
 use Rattle.ms_tree.proofs.PlainRows.{AreSaid, dir_fits, rows_back, top_back}
 use Rattle.ms_tree.proofs.Walks.{rows_met}

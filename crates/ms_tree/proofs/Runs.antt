@@ -10,10 +10,12 @@ use Rattle.std.proofs.lemmas.List.Elements.{All-head, All-tail, All-nil, All-pus
 use Rattle.std.proofs.lemmas.List.Sorted.{IsPermutation-map, All-permutation, Contains-permutation, IsPermutation-sym}
 use Rattle.std.proofs.lemmas.List.Sums.{take_while-cons}
 use Rattle.std.proofs.lemmas.Map.Keys.{IsDistinct-push, IsDistinct-IsPermutation, apart_from_distinct, sorted_from_all_adjacent}
+use Rattle.ms_base.specs.Rising.{Rises}
+use Rattle.ms_base.specs.Places.{in_none, in_here, in_later, map_has}
 use Rattle.ms_object.specs.declared.format.Format.{Format}
 use Rattle.ms_object.specs.Trees.{FileText}
 use Rattle.ms_tree.specs.Folders.{IsFolder, in_part, split_files}
-use Rattle.ms_tree.proofs.Members.{in_none, in_here, in_later, Rises, one_is_before, map_has, map_from, filter_from, filter_has, filter_none, filter_whole}
+use Rattle.ms_tree.proofs.Members.{one_is_before, map_from, filter_from, filter_has, filter_none, filter_whole}
 use Rattle.ms_tree.proofs.FirstParts.{part_of, parts_are}
 use Rattle.ms_tree.proofs.Groups.{begins, tested_same, same_tested, folder_rest, run_is_part}
 

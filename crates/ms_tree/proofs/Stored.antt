@@ -3,10 +3,10 @@ use Rattle.std.proofs.Common.{◌≡◌, ◌≢◌, ℕ, true, false, List, [], 
 use Rattle.std.proofs.lemmas.Bool.{cases_Bool, cond-true, cond-false, false_from_ne_true}
 use Rattle.std.proofs.lemmas.List.Elements.{Contains-append_left, Contains-append_right, Contains-append_cases}
 use Rattle.sha2.specs.Sha256.{sha256}
+use Rattle.ms_base.specs.Places.{in_none, in_here, in_cases}
 use Rattle.ms_object.specs.Stores.{text_after}
 use Rattle.ms_object.specs.Trees.{Texts}
 use Rattle.ms_tree.specs.Planting.{AddsTexts}
-use Rattle.ms_tree.proofs.Members.{in_none, in_here, in_cases}
 use Rattle.ms_tree.proofs.Groups.{tested_same, tested_other, same_tested}
 
 pub adds_none : (store : Texts) → AddsTexts store store []

@@ -8,11 +8,11 @@ use Rattle.std.proofs.lemmas.List.Elements.{All-nil, All-cons, All-head, All-tai
 use Rattle.std.proofs.lemmas.List.Splits.{slice_split_none}
 use Rattle.std.proofs.lemmas.Str.{IsUtf8-append, IsUtf8-from_ascii}
 use Rattle.std.proofs.lemmas.Str.Ascii.{IsAscii-from_all}
+use Rattle.ms_base.specs.Places.{in_here}
 use Rattle.ms_tree.specs.Paths.{parts_of, IsPart, IsPath, IsDirectoryOf}
 use Rattle.ms_tree.specs.Files.{IsFile}
 use Rattle.ms_tree.specs.Merging.{tagged}
 use Rattle.ms_text.specs.Labels.{IsClientLabel, is_label_byte}
-use Rattle.ms_tree.proofs.Members.{in_here}
 
 -- ---- what is put behind a path
 

@@ -8,6 +8,7 @@ use Rattle.std.specs.Ordering.{nat_cmp}
 use Rattle.std.specs.Cmp.Lexicographic.{slice_cmp}
 use Rattle.std.proofs.lemmas.Bool.{false≢true}
 use Rattle.std.proofs.lemmas.Slice.Eq.{bytes_eq-Decides}
+use Rattle.ms_base.specs.Options.{both}
 use Rattle.ms_base.specs.declared.names.Name.{Name}
 use Rattle.ms_base.specs.declared.names.Quantity.TheVariants as quantities
 use Rattle.ms_object.specs.declared.fault.GatherError.{GatherError}
@@ -30,10 +31,6 @@ fine-append : (xs ys : List Met) → fine (xs ++ ys) ≡ (fine xs && fine ys)
 fine-append [] ys = refl
 fine-append (Ok f ∷ xs) ys = fine-append xs ys
 fine-append (Err e ∷ xs) ys = refl
-
-both : (a b : Bool) → (a && b) ≡ true → (a ≡ true) × (b ≡ true)
-both true b h = (refl, h)
-both false b h = absurd (false≢true h)
 
 second_off : (a b : Bool) → b ≡ false → (a && b) ≡ false
 second_off true b e = e

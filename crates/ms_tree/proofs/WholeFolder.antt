@@ -3,6 +3,7 @@ use Rattle.std.proofs.Common.{◌≡◌, ℕ, cond, Bool, zero, suc, ◌+◌, �
 use Rattle.std.proofs.lemmas.List.{get_or_at}
 use Rattle.std.proofs.lemmas.List.Elements.{All-contains, All-cons, All-nil}
 use Rattle.std.proofs.lemmas.Str.{IsUtf8-take, IsUtf8-drop, IsCharBoundary-before_ascii, IsCharBoundary-after_ascii}
+use Rattle.ms_base.specs.Places.{in_cases, all_from}
 use Rattle.ms_object.specs.declared.format.Format.{Format}
 use Rattle.ms_object.specs.Labels.{IsLabel}
 use Rattle.ms_object.specs.Trees.{FileText}
@@ -17,7 +18,6 @@ use Rattle.ms_tree.specs.Planting.{first_part}
 use Rattle.ms_tree.proofs.Cutting.{IsClear, rest_of, path_cases, first_part_clear}
 use Rattle.ms_tree.proofs.FileLaws.{text_at-place}
 use Rattle.ms_tree.proofs.Inside.{drop_part, parts_of_cut, parts_of_whole}
-use Rattle.ms_tree.proofs.Members.{in_cases, all_from}
 
 slash_at : (part rest : List ℕ) → get_or (part ++ 47 ∷ rest) (length part) 0 < 128
 slash_at part rest = let e : get_or (part ++ 47 ∷ rest) (length part) 0 ≡ 47 = get_or_at part 47 rest 0 (length part) refl in omega (arith, e)

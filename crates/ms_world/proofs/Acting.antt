@@ -2,7 +2,7 @@
 use Rattle.std.proofs.Common.{◌≡◌, ℕ, ◌<◌, ◌≤◌, true, false, List, [], ◌∷◌, ◌++◌, map, Some, None, get_or, refl, sym, ap, ◌∙◌, slice_get, slice_set, slice_index_or, length, replicate, arith}
 use Rattle.std.proofs.lemmas.List.{append-nil, get_or_read}
 use Rattle.std.proofs.lemmas.Option.{slice_get_read, slice_get_within}
-use Rattle.ms_core.proofs.Places.{some_same}
+use Rattle.ms_base.specs.Places.{some_same}
 use Rattle.ms_world.specs.Steps.{IsUp, StartStep, StopStep, ReadStep}
 use Rattle.ms_world.specs.Worlds.{ClientView, RequestView, WorldView, changed, log_of, services_of, to_all}
 use Rattle.ms_record.specs.declared.plan.PlanRow.{PlanRow}

@@ -4,7 +4,8 @@ use Rattle.std.proofs.lemmas.Bool.{cases_lt}
 use Rattle.std.proofs.lemmas.List.{get_or_append_left, get_or_default, get_or_push}
 use Rattle.std.proofs.lemmas.List.Elements.{All-from_get_or}
 use Rattle.ms_world.specs.Passes.{AreRising, AreTaken, HaveMost}
-use Rattle.ms_core.proofs.Voters.{voter_below, count_some}
+use Rattle.ms_record.specs.Voters.{voter_below}
+use Rattle.ms_base.specs.CountLaws.{count_some}
 use Rattle.ms_record.specs.declared.ballot.Vote.{Vote}
 use Rattle.ms_record.specs.declared.entry.Entry.{Entry}
 use Rattle.ms_record.specs.declared.log.LogEvent.{LogEvent}

@@ -7,7 +7,7 @@ use Rattle.std.proofs.lemmas.Option.{get_or_from_slice_get, slice_get_within}
 use Rattle.ms_world.specs.Passes.{IsUnshown, AreRising, AreTaken, IsReadOf}
 use Rattle.ms_world.specs.Steps.{IsShown}
 use Rattle.ms_record.specs.Growing.{votes_append}
-use Rattle.ms_core.proofs.Places.{some_same, append_left, append_cases, alone}
+use Rattle.ms_base.specs.Places.{some_same, append_left, append_cases, alone}
 use Rattle.ms_record.specs.declared.acceptor.Acceptor.{Acceptor}
 use Rattle.ms_record.specs.declared.acceptor.Verdict.{Verdict}
 use Rattle.ms_record.specs.declared.acceptor.Verdict.TheVariants.{Promised, Taken, Outbid, Elsewhere}

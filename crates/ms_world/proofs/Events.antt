@@ -3,6 +3,7 @@ use Rattle.std.proofs.Common.{◌≡◌, ℕ, suc, ◌+◌, ◌^◌, ◌<◌, �
 use Rattle.std.proofs.lemmas.Bool.{cases_lt, cases_Bool, true≢false}
 use Rattle.std.proofs.lemmas.List.Sums.{sum_by-cons}
 use Rattle.std.proofs.lemmas.Option.{slice_get_within, slice_get-map}
+use Rattle.ms_base.specs.CountLaws.{count_some}
 use Rattle.ms_base.specs.declared.names.Name.{Name}
 use Rattle.ms_base.specs.declared.names.ClientId.{ClientId}
 use Rattle.ms_world.specs.declared.client.Bidding.{Bidding}
@@ -21,13 +22,13 @@ use Rattle.ms_record.specs.Plans.{PlanView, IsPlan, no_plan}
 use Rattle.ms_record.specs.Records.{IsRecord}
 use Rattle.ms_record.specs.Settings.{IsSetting, genesis_plan, origin_of}
 use Rattle.ms_record.specs.Votes.{ballot_of, IsPromised, IsBest, ChosenBy}
-use Rattle.ms_core.specs.Valid.{IsValid, plan_behind, votes_of_logs}
+use Rattle.ms_core.specs.Valid.{IsValid, judging_plan, votes_of_logs}
 use Rattle.ms_core.specs.Placing.{IsPlaced}
-use Rattle.ms_core.proofs.Voters.{AreKnown, first_known}
+use Rattle.ms_record.specs.Voters.{AreKnown, first_known}
 use Rattle.ms_record.specs.Growing.{justified_grows}
 use Rattle.ms_world.specs.Worlds.{ClientView, RequestView, WorldView, log_of, votes_of_world, known_votes, offers_of, offers_in, to_all, ballot_of_round, next_of, last_of, plan_of_client, voters_of_client}
-use Rattle.ms_core.proofs.Laws.{Laws}
-use Rattle.ms_core.proofs.Places.{some_same, append_left, append_cases, alone}
+use Rattle.ms_record.specs.ChainLaws.{ChainLaws}
+use Rattle.ms_base.specs.Places.{some_same, append_left, append_cases, alone}
 use Rattle.ms_world.proofs.Logs.{known_grows}
 use Rattle.std.specs.Option.{option_map}
 use Rattle.sha2.proofs.Facts256.{length-sha256}
@@ -70,7 +71,7 @@ same_client setting logs client c d ek eo ec eb ok = record {
       own = x.own;
       fits = x.fits;
       links = subst (λ (l : List Entry). LinksBehind (origin_of setting) l w) (sym ec) x.links;
-      placed = subst (λ (l : List Entry). IsPlaced logs (plan_behind setting l w) w.version) (sym ec) x.placed;
+      placed = subst (λ (l : List Entry). IsPlaced logs (judging_plan setting l w) w.version) (sym ec) x.placed;
     };
   };
 }
@@ -153,20 +154,9 @@ keeps_bid setting old client round want new few fits s h =
 
 -- ---- what is chosen was offered
 
-count_cons : (p : ℕ → Bool) (x : ℕ) (xs : List ℕ) (a : Bool) → p x ≡ a → count_by p (x ∷ xs) ≡ cond a 1 0 + count_by p xs
-count_cons p x xs a e = sum_by-cons (λ s. cond (p s) 1 0) x xs ∙ ap (λ (v : Bool). cond v 1 0 + count_by p xs) e
-
-pub counted : (p : ℕ → Bool) (xs : List ℕ) → 0 < count_by p xs → (s : ℕ) × (p s ≡ true)
-counted p [] h = absurd (omega arith)
-counted p (x ∷ xs) h =
-    elim (cases_Bool (p x)) [
-      | inl is ↦ (x, is)
-      | inr other ↦ counted p xs (omega (arith, count_cons p x xs false other, h))
-    ]
-
 pub chosen_offered : (setting : Setting) (w : WorldView) (voters : List ℕ) (k : ℕ) (e : Entry) → Inv setting w → ChosenBy (votes_of_world w) voters k e → (b : Ballot) × IsOffered (offers_in w) k b e
 chosen_offered setting w voters k e h c =
-    let m = counted c.part voters (omega (arith, c.majority.more_than_half)) in
+    let m = count_some c.part voters (omega (arith, c.majority.more_than_half)) in
     let t = c.taken m.0 m.1 in
     (c.ballot, h.listed m.0 t.0 k c.ballot e t.1.stands)
 
@@ -313,7 +303,7 @@ best_offered setting w c s position place v h g = h.listed s g.at position v.bal
 same_client_id : (a b : ClientId) → a.0 ≡ b.0 → a ≡ b
 same_client_id a b e = λ i. record { 0 = e i }
 
-pub may_offer : (l : Laws) (setting : Setting) (w : WorldView) (client : ℕ) (new : WorldView) (s : OfferStep setting w client new) → Inv setting w
+pub may_offer : (l : ChainLaws) (setting : Setting) (w : WorldView) (client : ℕ) (new : WorldView) (s : OfferStep setting w client new) → Inv setting w
     → MayOffer setting w s.bid.position (ballot_of_round client s.bid.round) s.entry
 may_offer l setting w client new s h =
     let b = (h.clients client s.c s.has.up.is).bid s.bid s.has.has in
@@ -357,7 +347,7 @@ may_offer l setting w client new s h =
       ];
     }
 
-pub offer_client : (l : Laws) (setting : Setting) (w : WorldView) (client : ℕ) (new : WorldView) (s : OfferStep setting w client new) → Inv setting w
+pub offer_client : (l : ChainLaws) (setting : Setting) (w : WorldView) (client : ℕ) (new : WorldView) (s : OfferStep setting w client new) → Inv setting w
     → ClientOk setting (log_of w) client (record s.c { offers = s.c.offers ++ Accept s.bid.position (ballot_of_round client s.bid.round) s.entry ∷ []; bid = Some (record s.bid { offered = true }) })
 offer_client l setting w client new s h =
     let ok = h.clients client s.c s.has.up.is in

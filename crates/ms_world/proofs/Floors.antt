@@ -1,9 +1,8 @@
 -- The greatest floor of a log that grows, and what it says.
 use Rattle.std.proofs.Common.{◌≡◌, ℕ, ◌<◌, ◌≤◌, List, [], ◌∷◌, ◌++◌, inl, inr, sym, ◌∙◌, subst, Contains, arith}
 use Rattle.std.proofs.lemmas.List.Elements.{Contains-append_left, Contains-append_right, Contains-push_cases}
-use Rattle.ms_core.proofs.Places.{in_here}
-use Rattle.ms_core.specs.Floors.{IsFloor}
-use Rattle.ms_world.specs.Steps.{IsOpen}
+use Rattle.ms_base.specs.Places.{in_here}
+use Rattle.ms_record.specs.Floors.{IsFloor}
 use Rattle.ms_record.specs.declared.log.LogEvent.{LogEvent}
 use Rattle.ms_record.specs.declared.log.LogEvent.TheVariants.{Drop}
 
@@ -30,14 +29,3 @@ floor_raised log event floor below is more h = record {
 
 pub no_floor_rec : (log : List LogEvent) (event : LogEvent) (floor : ℕ) → ((other : ℕ) → event ≡ Drop other → ⊥) → IsFloor log floor → IsFloor (log ++ event ∷ []) floor
 no_floor_rec log event floor none h = stays log event floor h (λ other e. absurd (none other e))
-
--- a generation that no drop passes
-pub below_floor : (log : List LogEvent) (generation floor : ℕ) → IsFloor log floor → 1 ≤ generation → generation ≤ 4294967294 → floor ≤ generation → IsOpen log generation
-below_floor log generation floor h some last fits = record {
-  some = some;
-  last = last;
-  above = λ other is. (let low = h.greatest other is in omega arith);
-}
-
-pub above_floor : (log : List LogEvent) (generation floor : ℕ) → IsFloor log floor → IsOpen log generation → floor ≤ generation
-above_floor log generation floor h open_ = elim h.there [ inl none ↦ omega arith | inr there ↦ open_.above floor there ]

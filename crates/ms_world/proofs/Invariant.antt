@@ -1,6 +1,7 @@
 -- What holds in each world that a run reaches.
 use Rattle.std.proofs.Common.{◌≡◌, ℕ, ◌<◌, ◌≤◌, false, List, Option, Some, None, inl, inr, refl, sym, ap, ◌∙◌, slice_get, length, Contains, arith}
 use Rattle.std.proofs.lemmas.Bool.{cases_lt}
+use Rattle.ms_base.specs.declared.limits.TheConstants.{LAST_NUMBER}
 use Rattle.ms_world.specs.declared.client.Bidding.{Bidding}
 use Rattle.ms_record.specs.declared.ballot.Ballot.{Ballot}
 use Rattle.ms_record.specs.declared.entry.Entry.{Entry}
@@ -18,10 +19,10 @@ use Rattle.ms_record.specs.Votes.{ballot_of}
 use Rattle.ms_core.specs.Placing.{IsPlaced}
 use Rattle.ms_world.specs.PutTexts.{ArePutsNamed}
 use Rattle.ms_core.specs.Growth.{linked_grows, placed_grows}
-use Rattle.ms_core.specs.Valid.{IsBacked, IsValid, plan_behind, votes_of_logs}
+use Rattle.ms_core.specs.Valid.{IsBacked, IsValid, judging_plan, votes_of_logs}
 use Rattle.ms_world.specs.Worlds.{ClientView, RequestView, WorldView, log_of, votes_of_world, offers_of, offers_in, next_of}
-use Rattle.ms_core.proofs.Laws.{Laws}
-use Rattle.ms_core.proofs.Places.{some_same}
+use Rattle.ms_record.specs.ChainLaws.{ChainLaws}
+use Rattle.ms_base.specs.Places.{some_same}
 use Rattle.ms_record.specs.Growing.{LogsGrow}
 
 -- an entry that a client may offer behind its chain
@@ -29,14 +30,14 @@ pub record IsWanted (setting : Setting) (logs : ℕ → List LogEvent) (client :
   pub own : e.client.0 ≡ client
   pub fits : IsEntry e
   pub links : LinksBehind (origin_of setting) c.chain e
-  pub placed : IsPlaced logs (plan_behind setting c.chain e) e.version
+  pub placed : IsPlaced logs (judging_plan setting c.chain e) e.version
 
 pub record IsBid (setting : Setting) (logs : ℕ → List LogEvent) (client : ℕ) (c : ClientView) (bid : Bidding) : Type 0 where
   pub at : bid.position ≡ next_of c
-  pub last : bid.position ≤ 4294967294
+  pub last : bid.position ≤ LAST_NUMBER
   pub kept : bid.round ≤ c.kept
   pub some_round : 1 ≤ bid.round
-  pub last_round : bid.round ≤ 4294967294
+  pub last_round : bid.round ≤ LAST_NUMBER
   pub fresh : bid.offered ≡ false → (i : ℕ) (r : Record) → slice_get c.offers i ≡ Some r → (ballot_of r).round < bid.round
   pub want : (e : Entry) → bid.want ≡ Some e → IsWanted setting logs client c e
 
@@ -72,7 +73,7 @@ wanted_grows setting old new client c e g h = record {
   own = h.own;
   fits = h.fits;
   links = h.links;
-  placed = placed_grows old new (plan_behind setting c.chain e) e.version g h.placed;
+  placed = placed_grows old new (judging_plan setting c.chain e) e.version g h.placed;
 }
 
 bid_grows : (setting : Setting) (old new : ℕ → List LogEvent) (client : ℕ) (c : ClientView) (bid : Bidding) → LogsGrow old new → IsBid setting old client c bid → IsBid setting new client c bid
@@ -86,7 +87,7 @@ bid_grows setting old new client c bid g h = record {
   want = λ e is. wanted_grows setting old new client c e g (h.want e is);
 }
 
-pub client_grows : (l : Laws) (setting : Setting) (old new : ℕ → List LogEvent) (client : ℕ) (c : ClientView) → LogsGrow old new → ClientOk setting old client c → ClientOk setting new client c
+pub client_grows : (l : ChainLaws) (setting : Setting) (old new : ℕ → List LogEvent) (client : ℕ) (c : ClientView) → LogsGrow old new → ClientOk setting old client c → ClientOk setting new client c
 client_grows l setting old new client c g h = record {
   known = h.known;
   accepts = h.accepts;

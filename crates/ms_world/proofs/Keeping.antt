@@ -17,8 +17,8 @@ use Rattle.ms_record.specs.Settings.{origin_of}
 use Rattle.ms_core.specs.Valid.{IsValid}
 use Rattle.ms_world.specs.Worlds.{ClientView, RequestView, WorldView, log_of, votes_of_world, offers_of, offers_in, changed, logged}
 use Rattle.sha2.specs.Sha256.{sha256}
-use Rattle.ms_core.proofs.Laws.{Laws}
-use Rattle.ms_core.proofs.Places.{same_or_not, some_same, append_left, append_cases, set_here, set_there}
+use Rattle.ms_record.specs.ChainLaws.{ChainLaws}
+use Rattle.ms_base.specs.Places.{same_or_not, some_same, append_left, append_cases, set_here, set_there}
 use Rattle.ms_record.specs.Growing.{is_justified_grows, votes_append, votes_grow}
 use Rattle.ms_core.specs.Growth.{valid_grows, backed_grows}
 use Rattle.ms_core.specs.Valid.{IsBacked}
@@ -115,7 +115,7 @@ keeps_quiet setting old client c d h is same ok =
     keeps_silent setting old client c d [] h is same ok (λ i q k b e g m. let w : None ≡ Some q = g in cc) (λ i q g. absurd (let w : None ≡ Some q = g in cc))
 
 -- an event more in one log
-pub keeps_logged : (l : Laws) (setting : Setting) (old : WorldView) (t : ℕ) (event : LogEvent) → Inv setting old
+pub keeps_logged : (l : ChainLaws) (setting : Setting) (old : WorldView) (t : ℕ) (event : LogEvent) → Inv setting old
     → ((p k : ℕ) (b : Ballot) (e : Entry) → slice_get (votes_in (event ∷ [])) p ≡ Some (Accept k b e) → IsOffered (offers_in old) k b e)
     → ((floor : ℕ) → event ≡ Drop floor → IsBacked setting (log_of old) floor)
     → ((generation : ℕ) (name : Name) (text : List ℕ) → event ≡ Put generation name text → name.0 ≡ sha256 text) → Inv setting (logged old t event)

@@ -4,7 +4,7 @@ use Rattle.std.proofs.lemmas.Bool.{cases_lt}
 use Rattle.std.proofs.lemmas.List.{append-nil, get_or-set_same, get_or-set_other, set_past}
 use Rattle.std.proofs.lemmas.List.Elements.{Contains-append_cases}
 use Rattle.ms_world.specs.Worlds.{ClientView, WorldView, log_of, votes_of_world, known_votes, logged}
-use Rattle.ms_core.proofs.Places.{same_or_not, in_none, in_cases}
+use Rattle.ms_base.specs.Places.{same_or_not, in_none, in_cases}
 use Rattle.ms_record.specs.declared.log.LogEvent.{LogEvent}
 use Rattle.ms_record.specs.Growing.{LogsGrow, votes_append}
 use Rattle.ms_record.specs.Logs.{votes_in}

@@ -7,11 +7,12 @@ use Rattle.std.proofs.lemmas.List.{get_or_past, get_or_default, length_push}
 use Rattle.std.proofs.lemmas.List.FromFn.{length-range_with_len}
 use Rattle.std.proofs.lemmas.List.Sums.{sum_by-append}
 use Rattle.std.proofs.lemmas.Option.{slice_get-get_or, get_or_from_slice_get}
-use Rattle.ms_core.proofs.Places.{append_cases, alone}
+use Rattle.ms_base.specs.Places.{append_cases, alone}
 use Rattle.ms_world.specs.Passes.{HaveMost}
 use Rattle.ms_record.specs.declared.ballot.Vote.{Vote}
 use Rattle.ms_record.specs.Votes.{IsMajority, services_below}
-use Rattle.ms_core.proofs.Voters.{below_voter, voter_below, count_cons, count_le}
+use Rattle.ms_record.specs.Voters.{below_voter, voter_below}
+use Rattle.ms_base.specs.CountLaws.{count_cons, count_le}
 
 -- counting the services is counting the list of their answers
 pub count_agree : {X : Type 0} (p : X → Bool) (q : ℕ → Bool) (xs : List X) (a : ℕ) → ((i : ℕ) (x : X) → slice_get xs i ≡ Some x → q (a + i) ≡ p x) → count_by q (range_with_len a (length xs)) ≡ count_by p xs

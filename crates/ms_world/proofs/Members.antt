@@ -2,8 +2,8 @@
 use Rattle.std.proofs.Common.{◌≡◌, ℕ, zero, suc, ◌+◌, ◌-◌, ◌<◌, ◌≤◌, List, [], ◌∷◌, ◌++◌, Some, None, get_or, take, length, slice_get, sym, ap, ◌∙◌, arith}
 use Rattle.std.proofs.lemmas.List.{take_more}
 use Rattle.ms_base.specs.declared.names.Name.{Name}
-use Rattle.ms_core.proofs.Living.{plan_push}
-use Rattle.ms_core.proofs.Places.{some_same}
+use Rattle.ms_record.specs.InForce.{plan_push}
+use Rattle.ms_base.specs.Places.{some_same}
 use Rattle.ms_world.specs.Steps.{last_version}
 use Rattle.ms_record.specs.declared.entry.Entry.{Entry}
 use Rattle.ms_record.specs.Chains.{last_name, plan_after, plan_in}

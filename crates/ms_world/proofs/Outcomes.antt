@@ -1,6 +1,6 @@
 -- An event that is carried out leads to one world.
 use Rattle.std.proofs.Common.{◌≡◌, ℕ, true, false, [], ◌∷◌, ◌++◌, Some, None, sym, ap, ◌∙◌, subst, slice_get, slice_set, replicate}
-use Rattle.ms_core.proofs.Places.{some_same}
+use Rattle.ms_base.specs.Places.{some_same}
 use Rattle.ms_world.specs.declared.client.Bidding.{Bidding}
 use Rattle.ms_world.specs.declared.event.Event.{Event}
 use Rattle.ms_world.specs.declared.event.Event.TheVariants as events

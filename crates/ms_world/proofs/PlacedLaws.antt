@@ -8,6 +8,7 @@ use Rattle.std.proofs.lemmas.List.Sums.{sum_by-cons}
 use Rattle.std.proofs.lemmas.Map.Keys.{any_passes_from_place}
 use Rattle.std.proofs.lemmas.Option.{slice_get_within, slice_get-get_or, get_or_from_slice_get}
 use Rattle.std.proofs.lemmas.Slice.Eq.{bytes_eq-Decides}
+use Rattle.ms_base.specs.declared.limits.TheConstants.{SERVICES}
 use Rattle.ms_base.specs.declared.names.Name.{Name}
 use Rattle.ms_core.specs.declared.want.Want.{Want}
 use Rattle.ms_core.specs.declared.want.Wanted.TheVariants.{Version}
@@ -15,7 +16,7 @@ use Rattle.ms_core.specs.Placing.{HasObject, OnEnough, want_of, wanted_in, IsOfF
 use Rattle.ms_world.specs.PutTexts.{ArePutsNamed, IsPlacedInLogs, text_of_puts}
 use Rattle.ms_world.specs.Puts.{PutsView, Knows, found_at, text_found, is_on}
 use Rattle.ms_world.specs.Reaching.{IsThere, Meets, Reaches}
-use Rattle.ms_core.proofs.Places.{some_same, append_left, append_cases, in_here, in_later}
+use Rattle.ms_base.specs.Places.{some_same, append_left, append_cases, in_here, in_later}
 use Rattle.ms_world.proofs.MeetLaws.{stays_met}
 use Rattle.ms_world.proofs.PutLaws.{both_true, name_is, put_where_text, text_from_put, text_is_named}
 use Rattle.ms_world.proofs.ReachLaws.{OneValue}
@@ -67,7 +68,7 @@ place_of xs x h = (h.0, slice_get-get_or xs h.0 x h.1 ∙ ap Some h.2)
 has_at : {X : Type 0} (xs : List X) (i : ℕ) (x : X) → slice_get xs i ≡ Some x → Contains xs x
 has_at xs i x h = (i, slice_get_within xs i x h, get_or_from_slice_get xs i x x h)
 
-few_services : (plan : PlanView) (row : PlanRow) → IsPlan plan → Contains plan.rows row → row.service.0 < 16
+few_services : (plan : PlanView) (row : PlanRow) → IsPlan plan → Contains plan.rows row → row.service.0 < SERVICES
 few_services plan row rules h = let at = place_of plan.rows row h in (rules.rows at.0 row at.1).service
 
 -- ---- the store of what was met: the first text that was put under each name
@@ -229,15 +230,15 @@ module _ (logs : List (List LogEvent)) (plan : PlanView) (version : Name) (puts 
 
       on_enough : (w : Want) → Done puts plan wants w → OnEnough (λ s. HasPut (slice_index_or logs s []) plan.generation w.name) plan
       on_enough w d = record {
-        part = λ s. ltb s 16 && is_on (found_at puts w.name) s;
-        have = λ s yes. let both = both_true (ltb s 16) (is_on (found_at puts w.name) s) yes in
-            put_where_text plan.generation w.name (slice_index_or logs s []) (sym (knows.services w.name s (ltb-true s 16 both.0)) ∙ both.1);
+        part = λ s. ltb s SERVICES && is_on (found_at puts w.name) s;
+        have = λ s yes. let both = both_true (ltb s SERVICES) (is_on (found_at puts w.name) s) yes in
+            put_where_text plan.generation w.name (slice_index_or logs s []) (sym (knows.services w.name s (ltb-true s SERVICES both.0)) ∙ both.1);
         enough = omega (
           arith,
           d.there.enough,
           count_more (λ (row : PlanRow). is_on (found_at puts w.name) row.service.0)
-              (λ (row : PlanRow). ltb row.service.0 16 && is_on (found_at puts w.name) row.service.0) plan.rows
-              (λ row there yes. ap (λ (b : Bool). b && is_on (found_at puts w.name) row.service.0) (lt-ltb row.service.0 16 (few_services plan row d.rules there)) ∙ yes),
+              (λ (row : PlanRow). ltb row.service.0 SERVICES && is_on (found_at puts w.name) row.service.0) plan.rows
+              (λ row there yes. ap (λ (b : Bool). b && is_on (found_at puts w.name) row.service.0) (lt-ltb row.service.0 SERVICES (few_services plan row d.rules there)) ∙ yes),
         );
       }
 

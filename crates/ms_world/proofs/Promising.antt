@@ -8,8 +8,8 @@ use Rattle.ms_world.specs.Rulings.{IsRuling}
 use Rattle.ms_world.specs.Steps.{IsShown, HasPromises, Offers}
 use Rattle.ms_world.specs.declared.rule.Ruling.TheVariants.{Unpromised, Nothing, Offer}
 use Rattle.ms_world.proofs.Majorities.{AreAnswers, one_if, count_push, part_none, part_majority, majority_passes}
-use Rattle.ms_core.proofs.Voters.{voter_below}
-use Rattle.ms_core.proofs.Places.{append_left, append_cases, alone}
+use Rattle.ms_record.specs.Voters.{voter_below}
+use Rattle.ms_base.specs.Places.{append_left, append_cases, alone}
 use Rattle.ms_record.specs.declared.ballot.Ballot.{Ballot}
 use Rattle.ms_record.specs.declared.ballot.Vote.{Vote}
 use Rattle.ms_record.specs.declared.entry.Entry.{Entry}

@@ -9,11 +9,13 @@ use Rattle.std.proofs.lemmas.List.{get_or-replicate, take_more}
 use Rattle.std.proofs.lemmas.List.Elements.{All-head, All-tail, Contains-push_cases}
 use Rattle.std.proofs.lemmas.Map.Text.{is_eq-slice_cmp}
 use Rattle.std.proofs.lemmas.Slice.Eq.{bytes_eq-Decides}
+use Rattle.std.specs.Option.{option_or}
+use Rattle.ms_base.specs.declared.limits.TheConstants.{SERVICES}
 use Rattle.ms_base.specs.declared.names.Name.{Name}
 use Rattle.ms_world.specs.declared.puts.Found.{Found}
-use Rattle.ms_world.specs.PutTexts.{ArePutsNamed, or_else, text_put, text_put_by, text_of_puts}
+use Rattle.ms_world.specs.PutTexts.{ArePutsNamed, text_put, text_put_by, text_of_puts}
 use Rattle.ms_world.specs.Puts.{PutsView, AddsTexts, Knows, found_at, text_found, is_on, text_under}
-use Rattle.ms_core.proofs.Places.{some_same, in_none, in_cases, in_here, in_later}
+use Rattle.ms_base.specs.Places.{some_same, in_none, in_cases, in_here, in_later}
 use Rattle.ms_object.specs.Stores.{name_cmp}
 use Rattle.ms_record.specs.declared.log.LogEvent.{LogEvent}
 use Rattle.ms_record.specs.declared.log.LogEvent.TheVariants.{Rec, Put, Drop}
@@ -21,25 +23,25 @@ use Rattle.ms_record.specs.Logs.{HasPut}
 
 -- ---- the first of some
 
-or_none : (o : Option (List ℕ)) → or_else o None ≡ o
+or_none : (o : Option (List ℕ)) → option_or o None ≡ o
 or_none None = refl
 or_none (Some text) = refl
 
-or_assoc : (a b c : Option (List ℕ)) → or_else (or_else a b) c ≡ or_else a (or_else b c)
+or_assoc : (a b c : Option (List ℕ)) → option_or (option_or a b) c ≡ option_or a (option_or b c)
 or_assoc None b c = refl
 or_assoc (Some text) b c = refl
 
-some_or : (a b : Option (List ℕ)) → is_some (or_else a b) ≡ (is_some a || is_some b)
+some_or : (a b : Option (List ℕ)) → is_some (option_or a b) ≡ (is_some a || is_some b)
 some_or None b = refl
 some_or (Some text) b = refl
 
-text_put_push : (g : ℕ) (name : Name) (log : List LogEvent) (e : LogEvent) → text_put g name (log ++ e ∷ []) ≡ or_else (text_put g name log) (text_put_by g name e)
+text_put_push : (g : ℕ) (name : Name) (log : List LogEvent) (e : LogEvent) → text_put g name (log ++ e ∷ []) ≡ option_or (text_put g name log) (text_put_by g name e)
 text_put_push g name [] e = or_none (text_put_by g name e)
-text_put_push g name (x ∷ log) e = ap (or_else (text_put_by g name x)) (text_put_push g name log e) ∙ sym (or_assoc (text_put_by g name x) (text_put g name log) (text_put_by g name e))
+text_put_push g name (x ∷ log) e = ap (option_or (text_put_by g name x)) (text_put_push g name log e) ∙ sym (or_assoc (text_put_by g name x) (text_put g name log) (text_put_by g name e))
 
-text_of_puts_push : (logs : List (List LogEvent)) (log : List LogEvent) (g : ℕ) (name : Name) → text_of_puts (logs ++ log ∷ []) g name ≡ or_else (text_of_puts logs g name) (text_put g name log)
+text_of_puts_push : (logs : List (List LogEvent)) (log : List LogEvent) (g : ℕ) (name : Name) → text_of_puts (logs ++ log ∷ []) g name ≡ option_or (text_of_puts logs g name) (text_put g name log)
 text_of_puts_push [] log g name = or_none (text_put g name log)
-text_of_puts_push (x ∷ logs) log g name = ap (or_else (text_put g name x)) (text_of_puts_push logs log g name) ∙ sym (or_assoc (text_put g name x) (text_of_puts logs g name) (text_put g name log))
+text_of_puts_push (x ∷ logs) log g name = ap (option_or (text_put g name x)) (text_of_puts_push logs log g name) ∙ sym (or_assoc (text_put g name x) (text_of_puts logs g name) (text_put g name log))
 
 -- ---- one event more
 
@@ -78,9 +80,9 @@ pub knows_more : (logs : List (List LogEvent)) (log : List LogEvent) (e : LogEve
     → AddsTexts (λ name. text_put_by g name e) service old new → Knows (logs ++ log ∷ []) g old → Knows (logs ++ (log ++ e ∷ []) ∷ []) g new
 knows_more logs log e g service old new at adds k = record {
   texts = λ name. let t = text_put_by g name e in
-      adds.texts name ∙ ap (λ (o : Option (List ℕ)). or_else o t) (k.texts name ∙ text_of_puts_push logs log g name)
+      adds.texts name ∙ ap (λ (o : Option (List ℕ)). option_or o t) (k.texts name ∙ text_of_puts_push logs log g name)
       ∙ or_assoc (text_of_puts logs g name) (text_put g name log) t
-      ∙ ap (or_else (text_of_puts logs g name)) (sym (text_put_push g name log e)) ∙ sym (text_of_puts_push logs (log ++ e ∷ []) g name);
+      ∙ ap (option_or (text_of_puts logs g name)) (sym (text_put_push g name log e)) ∙ sym (text_of_puts_push logs (log ++ e ∷ []) g name);
   services = λ name s few. let t = is_some (text_put_by g name e) in
       adds.services name s few ∙ ap (λ (b : Bool). b || ((s == service) && t)) (k.services name s few)
       ∙ ap (λ (n : ℕ). is_some (text_put g name (slice_index_or (logs ++ log ∷ []) s [])) || ((s == n) && t)) (sym at)
@@ -102,19 +104,19 @@ knows_none g = record {
 
 -- ---- one text more under a name
 
-pub first_text : (o : Option Found) (fresh found : Found) (text : List ℕ) → fresh.text.now ≡ text → found ≡ unwrap_or o fresh → Some found.text.now ≡ or_else (text_found o) (Some text)
+pub first_text : (o : Option Found) (fresh found : Found) (text : List ℕ) → fresh.text.now ≡ text → found ≡ unwrap_or o fresh → Some found.text.now ≡ option_or (text_found o) (Some text)
 first_text None fresh found text e h = ap (λ (x : Found). Some x.text.now) h ∙ ap (λ (t : List ℕ). Some t) e
 first_text (Some x) fresh found text e h = ap (λ (y : Found). Some y.text.now) h
 
-pub first_marks : (o : Option Found) (fresh found : Found) → fresh.services ≡ replicate 16 false → found ≡ unwrap_or o fresh → (s : ℕ) → s < 16 → slice_index_or found.services s false ≡ is_on o s
-first_marks None fresh found e h s few = ap (λ (x : Found). slice_index_or x.services s false) h ∙ ap (λ (l : List Bool). slice_index_or l s false) e ∙ get_or-replicate 16 s false false few
+pub first_marks : (o : Option Found) (fresh found : Found) → fresh.services ≡ replicate SERVICES false → found ≡ unwrap_or o fresh → (s : ℕ) → s < SERVICES → slice_index_or found.services s false ≡ is_on o s
+first_marks None fresh found e h s few = ap (λ (x : Found). slice_index_or x.services s false) h ∙ ap (λ (l : List Bool). slice_index_or l s false) e ∙ get_or-replicate SERVICES s false false few
 first_marks (Some x) fresh found e h s few = ap (λ (y : Found). slice_index_or y.services s false) h
 
 pub name_is : (a b : Name) → bytes_eq a.0 b.0 ≡ true → a ≡ b
 name_is a b e = let is = (bytes_eq-Decides a.0 b.0).0 e in λ i. record { 0 = is i }
 
-pub text_added : (old new : PutsView) (name : Name) (text : List ℕ) (service : ℕ) (found : Found) → Some found.text.now ≡ or_else (text_found (found_at old name)) (Some text)
-    → ((s : ℕ) → s < 16 → slice_index_or found.services s false ≡ (is_on (found_at old name) s || (s == service)))
+pub text_added : (old new : PutsView) (name : Name) (text : List ℕ) (service : ℕ) (found : Found) → Some found.text.now ≡ option_or (text_found (found_at old name)) (Some text)
+    → ((s : ℕ) → s < SERVICES → slice_index_or found.services s false ≡ (is_on (found_at old name) s || (s == service)))
     → ((q : Name) → found_at new q ≡ cond (is_eq (name_cmp name q)) (Some found) (found_at old q)) → AddsTexts (text_under name text) service old new
 text_added old new name text service found first marks is = record {
   texts = λ q. ap text_found (now_at q) ∙ text_at q (bytes_eq name.0 q.0) refl;
@@ -124,11 +126,11 @@ text_added old new name text service found first marks is = record {
     now_at : (q : Name) → found_at new q ≡ cond (bytes_eq name.0 q.0) (Some found) (found_at old q)
     now_at q = is q ∙ ap (λ (b : Bool). cond b (Some found) (found_at old q)) (is_eq-slice_cmp name.0 q.0)
 
-    text_at : (q : Name) (b : Bool) → bytes_eq name.0 q.0 ≡ b → text_found (cond b (Some found) (found_at old q)) ≡ or_else (text_found (found_at old q)) (cond b (Some text) None)
-    text_at q true e = first ∙ ap (λ (n : Name). or_else (text_found (found_at old n)) (Some text)) (name_is name q e)
+    text_at : (q : Name) (b : Bool) → bytes_eq name.0 q.0 ≡ b → text_found (cond b (Some found) (found_at old q)) ≡ option_or (text_found (found_at old q)) (cond b (Some text) None)
+    text_at q true e = first ∙ ap (λ (n : Name). option_or (text_found (found_at old n)) (Some text)) (name_is name q e)
     text_at q false e = sym (or_none (text_found (found_at old q)))
 
-    mark_at : (q : Name) (s : ℕ) → s < 16 → (b : Bool) → bytes_eq name.0 q.0 ≡ b
+    mark_at : (q : Name) (s : ℕ) → s < SERVICES → (b : Bool) → bytes_eq name.0 q.0 ≡ b
         → is_on (cond b (Some found) (found_at old q)) s ≡ (is_on (found_at old q) s || ((s == service) && is_some (cond b (Some text) None)))
     mark_at q s few true e =
         marks s few ∙ ap (λ (n : Name). is_on (found_at old n) s || (s == service)) (name_is name q e) ∙ ap (λ (b : Bool). is_on (found_at old q) s || b) (sym (and-true (s == service)))
@@ -153,7 +155,7 @@ put_from_text g name (Drop floor ∷ log) text e = in_later (Drop floor) log (Pu
 put_from_text g name (Put h x t ∷ log) text e = by ((h == g) && bytes_eq x.0 name.0) refl (put_from_text g name log text) e
   where
     by : (b : Bool) → ((h == g) && bytes_eq x.0 name.0) ≡ b → (text_put g name log ≡ Some text → Contains log (Put g name text))
-        → or_else (cond b (Some t) None) (text_put g name log) ≡ Some text → Contains (Put h x t ∷ log) (Put g name text)
+        → option_or (cond b (Some t) None) (text_put g name log) ≡ Some text → Contains (Put h x t ∷ log) (Put g name text)
     by true is later e = let both = both_true (h == g) (bytes_eq x.0 name.0) is in
         subst (λ (p : LogEvent). Contains (Put h x t ∷ log) p) (one_put h g x name t text (eqb-true h g both.0) (name_is x name both.1) e) (in_here (Put h x t) log)
     by false is later e = in_later (Put h x t) log (Put g name text) (later e)
@@ -182,7 +184,7 @@ pub text_is_named : (logs : List (List LogEvent)) (g : ℕ) (name : Name) (text 
 text_is_named [] g name text named e = cc
 text_is_named (log ∷ logs) g name text named e = by (text_put g name log) refl (text_is_named logs g name text (All-tail ArePutsNamed log logs named)) e
   where
-    by : (o : Option (List ℕ)) → text_put g name log ≡ o → (text_of_puts logs g name ≡ Some text → name.0 ≡ sha256 text) → or_else o (text_of_puts logs g name) ≡ Some text → name.0 ≡ sha256 text
+    by : (o : Option (List ℕ)) → text_put g name log ≡ o → (text_of_puts logs g name ≡ Some text → name.0 ≡ sha256 text) → option_or o (text_of_puts logs g name) ≡ Some text → name.0 ≡ sha256 text
     by None is later e = later e
     by (Some t) is later e = All-head ArePutsNamed log logs named g name text (put_from_text g name log text (is ∙ e))
 

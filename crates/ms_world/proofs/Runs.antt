@@ -20,8 +20,8 @@ use Rattle.ms_record.specs.Settings.{IsSetting, origin_of}
 use Rattle.ms_record.specs.Votes.{ballot_of}
 use Rattle.ms_core.specs.Valid.{IsValid}
 use Rattle.ms_world.specs.Worlds.{ClientView, WorldView, log_of, votes_of_world, known_votes, offers_of, offers_in, to_all, changed, ballot_of_round, next_of, voters_of_client, new_client, start_world}
-use Rattle.ms_core.proofs.Laws.{Laws}
-use Rattle.ms_core.proofs.Places.{at_end, alone, set_here, replicate_all, in_none}
+use Rattle.ms_record.specs.ChainLaws.{ChainLaws}
+use Rattle.ms_base.specs.Places.{at_end, alone, set_here, replicate_all, in_none}
 use Rattle.ms_world.proofs.Logs.{known_grows}
 use Rattle.sha2.specs.Sha256.{sha256}
 use Rattle.ms_world.specs.declared.event.Event.{Event}
@@ -38,7 +38,7 @@ AllOk : Setting → WorldView → Record → Type 0
 AllOk setting w (Prepare k b) = Unit {0}
 AllOk setting w (Accept k b e) = MayOffer setting w k b e
 
-keeps_offer : (l : Laws) (setting : Setting) (old : WorldView) (client : ℕ) (new : WorldView) → IsSetting setting → OfferStep setting old client new → Inv setting old → Inv setting new
+keeps_offer : (l : ChainLaws) (setting : Setting) (old : WorldView) (client : ℕ) (new : WorldView) → IsSetting setting → OfferStep setting old client new → Inv setting old → Inv setting new
 unfolding AllOk
 keeps_offer l setting old client new set s h =
     let ok = h.clients client s.c s.has.up.is in
@@ -57,7 +57,7 @@ keeps_offer l setting old client new set s h =
     (λ i q k b e g m. subst IsIn (sym (message_of_all voters r i q g) ∙ m) there)
     (λ i q g. subst IsRecord (sym (message_of_all voters r i q g)) fits))
 
-keeps_learn : (l : Laws) (setting : Setting) (old : WorldView) (client : ℕ) (new : WorldView) → LearnStep setting old client new → Inv setting old → Inv setting new
+keeps_learn : (l : ChainLaws) (setting : Setting) (old : WorldView) (client : ℕ) (new : WorldView) → LearnStep setting old client new → Inv setting old → Inv setting new
 keeps_learn l setting old client new s h =
     let ok = h.clients client s.c s.up.is in
     let chosen = chosen_grows (known_votes old s.c) (votes_of_world old) (voters_of_client setting s.c) (next_of s.c) s.entry (known_grows old s.c) s.can.chosen in
@@ -100,7 +100,7 @@ same_put g h x y s t e is = ap (λ (n : Name). n.0) (sym (ap (name_in x) e)) ∙
 same_floor : (floor other : ℕ) → Drop floor ≡ Drop other → floor ≡ other
 same_floor floor other h = cc
 
-keeps_deliver : (l : Laws) (setting : Setting) (old : WorldView) (request : ℕ) (new : WorldView) → DeliverStep old request new → Inv setting old → Inv setting new
+keeps_deliver : (l : ChainLaws) (setting : Setting) (old : WorldView) (request : ℕ) (new : WorldView) → DeliverStep old request new → Inv setting old → Inv setting new
 keeps_deliver l setting old request new s h =
     let m = s.r.message in
     let votes : votes_in (Rec vote_list (record_text m) ∷ []) ≡ m ∷ [] = ap (λ (o : Option Record). with_record o []) (l.read m (h.sent_fits request s.r s.is)) in
@@ -110,7 +110,7 @@ keeps_deliver l setting old request new s h =
     (λ floor e. absurd (rec_is_no_drop (record_text m) floor e))
     (λ generation name text e. absurd (rec_is_no_put (record_text m) generation name text e)))
 
-keeps_place : (l : Laws) (setting : Setting) (old : WorldView) (service generation : ℕ) (text : List ℕ) (new : WorldView) → PlaceStep setting old service generation text new → Inv setting old → Inv setting new
+keeps_place : (l : ChainLaws) (setting : Setting) (old : WorldView) (service generation : ℕ) (text : List ℕ) (new : WorldView) → PlaceStep setting old service generation text new → Inv setting old → Inv setting new
 keeps_place l setting old service generation text new s h =
     subst (λ (w : WorldView). Inv setting w) (sym s.becomes)
     (keeps_logged l setting old service (Put generation (record { 0 = sha256 text }) text) h
@@ -122,7 +122,7 @@ turned_backed : (setting : Setting) (w : WorldView) (floor : ℕ) → IsTurned s
 turned_backed setting w floor (inl low) = inl low
 turned_backed setting w floor (inr h) = inr (h.0, h.1.linked, h.2)
 
-keeps_drop : (l : Laws) (setting : Setting) (old : WorldView) (service floor : ℕ) (new : WorldView) → DropStep setting old service floor new → Inv setting old → Inv setting new
+keeps_drop : (l : ChainLaws) (setting : Setting) (old : WorldView) (service floor : ℕ) (new : WorldView) → DropStep setting old service floor new → Inv setting old → Inv setting new
 keeps_drop l setting old service floor new s h =
     subst (λ (w : WorldView). Inv setting w) (sym s.becomes)
     (keeps_logged l setting old service (Drop floor) h
@@ -130,7 +130,7 @@ keeps_drop l setting old service floor new s h =
     (λ other e. subst (λ (f : ℕ). IsBacked setting (log_of old) f) (same_floor floor other e) (turned_backed setting old floor s.turned_is))
     (λ g x t e. absurd (drop_is_no_put floor g x t e)))
 
-keeps_step : (l : Laws) (setting : Setting) (old : WorldView) (event : Event) (new : WorldView) → IsSetting setting → IsEvent event → Step setting old event new → Inv setting old → Inv setting new
+keeps_step : (l : ChainLaws) (setting : Setting) (old : WorldView) (event : Event) (new : WorldView) → IsSetting setting → IsEvent event → Step setting old event new → Inv setting old → Inv setting new
 keeps_step l setting old (events.Start client) new set fits s h = keeps_start setting old client.0 new s h
 keeps_step l setting old (events.Stop client) new set fits s h = keeps_stop setting old client.0 new s h
 keeps_step l setting old (events.Bid client round want) new set fits s h = keeps_bid setting old client.0 round want new set.few_clients (any_client client round want fits) s h
@@ -147,7 +147,7 @@ keeps_step l setting old (events.Learn client) new set fits s h = keeps_learn l 
 keeps_step l setting old (events.Place service generation text) new set fits s h = keeps_place l setting old service.0 generation text new s h
 keeps_step l setting old (events.DropBelow service floor) new set fits s h = keeps_drop l setting old service.0 floor new s h
 
-pub keeps_steps : (l : Laws) (setting : Setting) (old : WorldView) (events : List Event) (new : WorldView) → IsSetting setting → All IsEvent events → Steps setting old events new → Inv setting old → Inv setting new
+pub keeps_steps : (l : ChainLaws) (setting : Setting) (old : WorldView) (events : List Event) (new : WorldView) → IsSetting setting → All IsEvent events → Steps setting old events new → Inv setting old → Inv setting new
 keeps_steps l setting old [] new set fit s h = subst (λ (w : WorldView). Inv setting w) (sym s) h
 keeps_steps l setting old (event ∷ events) new set fit s h =
     keeps_steps l setting s.0 events new set (All-tail IsEvent event events fit) s.2 (keeps_step l setting old event s.0 set (All-head IsEvent event events fit) s.1 h)
@@ -195,10 +195,10 @@ start_inv setting =
       dropped = λ s floor has. absurd (in_none (Drop floor) (subst (λ (l : List LogEvent). Contains l (Drop floor)) (empty_log setting.services s) has));
     }
 
-pub run_inv : (l : Laws) (setting : Setting) (events : List Event) (w : WorldView) → IsSetting setting → All IsEvent events → IsRun setting events w → Inv setting w
+pub run_inv : (l : ChainLaws) (setting : Setting) (events : List Event) (w : WorldView) → IsSetting setting → All IsEvent events → IsRun setting events w → Inv setting w
 run_inv l setting events w set fit r = keeps_steps l setting (start_world setting) events w set fit r (start_inv setting)
 
-pub inv_agrees : (l : Laws) (setting : Setting) (w : WorldView) → Inv setting w → Agrees (votes_of_world w) (origin_of setting)
+pub inv_agrees : (l : ChainLaws) (setting : Setting) (w : WorldView) → Inv setting w → Agrees (votes_of_world w) (origin_of setting)
 inv_agrees l setting w h = l.agrees (votes_of_world w) (offers_in w) (origin_of setting) (sound setting w h)
 
 pub inv_valid : (setting : Setting) (w : WorldView) → Inv setting w → (k : ℕ) (e : Entry) → IsChosen (votes_of_world w) (origin_of setting) k e → IsValid setting (log_of w) k e
@@ -207,10 +207,10 @@ inv_valid setting w h k e c = let o = chosen_offered setting w (voters_behind (o
 pub inv_next : (setting : Setting) (w : WorldView) → Inv setting w → AllNext (votes_of_world w) (origin_of setting)
 inv_next setting w h k e c = (inv_valid setting w h k e c).next
 
-pub inv_stands : (l : Laws) (setting : Setting) (w : WorldView) (chain : List Entry) → Inv setting w → IsChain (votes_of_world w) (origin_of setting) chain
+pub inv_stands : (l : ChainLaws) (setting : Setting) (w : WorldView) (chain : List Entry) → Inv setting w → IsChain (votes_of_world w) (origin_of setting) chain
     → (i : ℕ) (e : Entry) → IsChosen (votes_of_world w) (origin_of setting) (i + 1) e → slice_get chain i ≡ Some e
 inv_stands l setting w chain h is i e c = l.stands (votes_of_world w) (origin_of setting) chain i e (inv_agrees l setting w h) (inv_next setting w h) is c
 
-pub inv_begins : (l : Laws) (setting : Setting) (w : WorldView) (a b : List Entry) → Inv setting w → IsLinked (votes_of_world w) (origin_of setting) a
+pub inv_begins : (l : ChainLaws) (setting : Setting) (w : WorldView) (a b : List Entry) → Inv setting w → IsLinked (votes_of_world w) (origin_of setting) a
     → IsLinked (votes_of_world w) (origin_of setting) b → length a ≤ length b → Begins a b
 inv_begins l setting w a b h la lb short = l.begins (votes_of_world w) (origin_of setting) a b (inv_agrees l setting w h) la lb short

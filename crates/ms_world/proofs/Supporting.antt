@@ -3,9 +3,9 @@ use Rattle.std.proofs.Common.{◌≡◌, ℕ, zero, suc, ◌<◌, ◌≤◌, Lis
 use Rattle.std.proofs.lemmas.Bool.{cases_lt}
 use Rattle.std.proofs.lemmas.Option.{slice_get_within}
 use Rattle.ms_world.proofs.Invariant.{Inv}
-use Rattle.ms_core.proofs.Places.{append_left, in_none}
-use Rattle.ms_core.proofs.Spelled.{record_there, text_there}
-use Rattle.ms_core.proofs.Telling.{contains_at}
+use Rattle.ms_base.specs.Places.{append_left, in_none}
+use Rattle.ms_record.specs.ListTexts.{record_there, text_there}
+use Rattle.ms_base.specs.Places.{contains_at}
 use Rattle.ms_core.specs.Views.{SupportsEvent, MayDeclare}
 use Rattle.ms_world.specs.Worlds.{ClientView, WorldView, log_of, offers_of, offers_in}
 use Rattle.ms_record.specs.declared.log.LogEvent.{LogEvent}

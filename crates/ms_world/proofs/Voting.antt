@@ -9,9 +9,9 @@ use Rattle.ms_world.specs.Rulings.{votes_at, IsRuling, Rises, AreFronts}
 use Rattle.ms_world.specs.Steps.{HasPromises, Offers}
 use Rattle.ms_world.specs.declared.rule.Ruling.{Ruling}
 use Rattle.ms_world.specs.declared.rule.Ruling.TheVariants.{Unpromised, Nothing, Offer}
-use Rattle.ms_core.proofs.Voters.{below_voter, voter_below}
+use Rattle.ms_record.specs.Voters.{below_voter, voter_below}
 use Rattle.ms_world.proofs.Majorities.{count_agree}
-use Rattle.ms_core.proofs.Places.{some_same}
+use Rattle.ms_base.specs.Places.{some_same}
 use Rattle.ms_base.specs.declared.bytes.NoMemory.{NoMemory}
 use Rattle.ms_world.proofs.Fronts.{plan_rises}
 use Rattle.ms_world.specs.Worlds.{services_of}

@@ -1,5 +1,6 @@
 -- When a version is placed by the first text that was put under each name.
 use Rattle.std.specs.Prelude.{◌≡◌, ℕ, ◌==◌, ◌&&◌, bytes_eq, List, [], ◌∷◌, Option, Some, None, Contains, slice_index_or, if◌then◌else◌}
+use Rattle.std.specs.Option.{option_or}
 use Rattle.sha2.specs.Sha256.{sha256}
 use Rattle.ms_base.specs.declared.names.Name.{Name}
 use Rattle.ms_core.specs.Placing.{PlacedBy}
@@ -13,19 +14,15 @@ abbrev pub text_put_by : ℕ → Name → LogEvent → Option (List ℕ)
 text_put_by generation name (Put g x text) = if (g == generation) && bytes_eq x.0 name.0 then Some text else None
 text_put_by generation name _ = None
 
-abbrev pub or_else : Option (List ℕ) → Option (List ℕ) → Option (List ℕ)
-or_else None later = later
-or_else (Some text) later = Some text
-
 -- the first text that a log puts under that name in that generation
 abbrev pub text_put : ℕ → Name → List LogEvent → Option (List ℕ)
 text_put generation name [] = None
-text_put generation name (event ∷ log) = or_else (text_put_by generation name event) (text_put generation name log)
+text_put generation name (event ∷ log) = option_or (text_put_by generation name event) (text_put generation name log)
 
 -- the same of all logs, in the order of the services
 abbrev pub text_of_puts : List (List LogEvent) → ℕ → Name → Option (List ℕ)
 text_of_puts [] generation name = None
-text_of_puts (log ∷ logs) generation name = or_else (text_put generation name log) (text_of_puts logs generation name)
+text_of_puts (log ∷ logs) generation name = option_or (text_put generation name log) (text_of_puts logs generation name)
 
 -- placed by the first text that was put under each name, where these are the logs of the services
 pub record IsPlacedInLogs (logs : List (List LogEvent)) (plan : PlanView) (version : Name) : Type 0 where

@@ -14,10 +14,20 @@ use Rattle.ms_record.specs.declared.setting.Setting.{Setting}
 use Rattle.ms_record.specs.Plans.{PlanView}
 use Rattle.std.specs.Prelude.{slice_get}
 
+-- there is such a client, and it is off
+abbrev pub IsOff : WorldView → ℕ → Type 0
+IsOff w client = (c : ClientView) × (slice_get w.clients client ≡ Some c) × (c.on ≡ false)
+
+-- there is no such client, or it is off
+abbrev pub IsDown : WorldView → ℕ → Why → Type 0
+IsDown w client whys.Client = length w.clients ≤ client
+IsDown w client whys.Off = IsOff w client
+IsDown w client _ = ⊥
+
 -- there is no such client, or it is off, before what the event asks besides
 abbrev pub NeedsClient : WorldView → ℕ → Why → (ClientView → Type 0) → Type 0
-NeedsClient w client whys.Client Fails = length w.clients ≤ client
-NeedsClient w client whys.Off Fails = (c : ClientView) × (slice_get w.clients client ≡ Some c) × (c.on ≡ false)
+NeedsClient w client whys.Client Fails = IsDown w client whys.Client
+NeedsClient w client whys.Off Fails = IsDown w client whys.Off
 NeedsClient w client why Fails = (c : ClientView) × IsUp w client c × Fails c
 
 -- what a bid asks, before what is asked of its entry

@@ -1,7 +1,8 @@
 -- What each event keeps of a world's state, and what is decided of one client.
 use Rattle.std.specs.Prelude.{◌≡◌, ℕ, ◌≤◌, false, All, Option, Some, None, length, slice_get}
+use Rattle.ms_base.specs.declared.limits.TheConstants.{LAST_NUMBER}
 use Rattle.ms_world.specs.PutTexts.{ArePutsNamed}
-use Rattle.ms_world.specs.Steps.{IsNextPosition, IsNextRound, last_number}
+use Rattle.ms_world.specs.Steps.{IsNextPosition, IsNextRound}
 use Rattle.ms_world.specs.Worlds.{ClientView, WorldView, known_votes, next_of, voters_of_client}
 use Rattle.ms_record.specs.declared.entry.Entry.{Entry}
 use Rattle.ms_record.specs.declared.refusal.Why.{Why}
@@ -15,13 +16,7 @@ pub record IsState (setting : Setting) (w : WorldView) : Type 0 where
   pub set : IsSetting setting
   pub services : length w.logs ≡ setting.services
   pub named : All ArePutsNamed w.logs
-  pub short : (client : ℕ) (c : ClientView) → slice_get w.clients client ≡ Some c → length c.chain ≤ last_number
-
--- there is no such client, or it is off
-abbrev pub IsDown : WorldView → ℕ → Why → Type 0
-IsDown w client whys.Client = length w.clients ≤ client
-IsDown w client whys.Off = (c : ClientView) × (slice_get w.clients client ≡ Some c) × (c.on ≡ false)
-IsDown w client _ = ⊥
+  pub short : (client : ℕ) (c : ClientView) → slice_get w.clients client ≡ Some c → length c.chain ≤ LAST_NUMBER
 
 -- a client may bid for the position behind its chain in that round; or the condition that fails
 abbrev pub MayBid : ClientView → ℕ → Option Why → Type 0

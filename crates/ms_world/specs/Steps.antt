@@ -1,6 +1,7 @@
 -- What each event does to a world, and which of its conditions fails first.
 use Rattle.std.specs.Prelude.{◌≡◌, ℕ, ◌^◌, ◌<◌, ◌≤◌, ◌⊎◌, Bool, true, false, List, [], ◌∷◌, ◌++◌, Option, Some, None, length, slice_get, slice_set, slice_index_or, replicate, Contains}
 use Rattle.sha2.specs.Sha256.{sha256}
+use Rattle.ms_base.specs.declared.limits.TheConstants.{LAST_NUMBER}
 use Rattle.ms_base.specs.declared.names.Name.{Name}
 use Rattle.ms_world.specs.declared.event.Event.{Event}
 use Rattle.ms_world.specs.declared.event.Event.TheVariants as events
@@ -18,15 +19,12 @@ use Rattle.ms_record.specs.declared.record.Record.{Record}
 use Rattle.ms_record.specs.declared.record.Record.TheVariants.{Prepare, Accept}
 use Rattle.ms_record.specs.declared.setting.Setting.{Setting}
 use Rattle.ms_record.specs.Chains.{LinksBehind, IsChain, GoesOn, generation_in}
+use Rattle.ms_record.specs.Logs.{NoDropAbove}
 use Rattle.ms_record.specs.Offers.{IsFirstPromised, IsOfGreatest}
 use Rattle.ms_record.specs.Plans.{PlanView, IsPlan}
 use Rattle.ms_record.specs.Records.{record_text}
 use Rattle.ms_record.specs.Settings.{genesis_plan, origin_of}
 use Rattle.ms_record.specs.Votes.{IsPromised, IsBest, IsMajority, ChosenBy}
-
--- the last position, round and generation
-abbrev pub last_number : ℕ
-last_number = 4294967294
 
 -- the client with this number, and that it is on
 pub record IsUp (w : WorldView) (client : ℕ) (c : ClientView) : Type 0 where
@@ -96,11 +94,11 @@ bid_made setting w client c round want =
     changed w client (with_bid c round want) (to_all (voters_of_client setting c) (Prepare (next_of c) (ballot_of_round client round)))
 
 abbrev pub IsNextPosition : ClientView → Type 0
-IsNextPosition c = next_of c ≤ last_number
+IsNextPosition c = next_of c ≤ LAST_NUMBER
 
 -- a round above the kept one
 abbrev pub IsNextRound : ClientView → ℕ → Type 0
-IsNextRound c round = (c.kept < round) × (round ≤ last_number)
+IsNextRound c round = (c.kept < round) × (round ≤ LAST_NUMBER)
 
 -- what a client on may begin to bid with
 pub record CanBid (w : WorldView) (client round : ℕ) (c : ClientView) : Type 0 where
@@ -153,8 +151,8 @@ pub record CanLearn (setting : Setting) (w : WorldView) (c : ClientView) (entry 
 -- a generation that a service takes puts in
 pub record IsOpen (log : List LogEvent) (generation : ℕ) : Type 0 where
   pub some : 1 ≤ generation
-  pub last : generation ≤ last_number
-  pub above : (floor : ℕ) → Contains log (Drop floor) → floor ≤ generation
+  pub last : generation ≤ LAST_NUMBER
+  pub above : NoDropAbove log generation
 
 -- the chain of the logs has a plan of at least that generation, or nothing is dropped
 abbrev pub IsTurned : Setting → WorldView → ℕ → Type 0

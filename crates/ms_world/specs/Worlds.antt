@@ -2,6 +2,7 @@
 use Rattle.std.specs.Prelude.{ℕ, ◌+◌, Bool, false, List, [], ◌∷◌, ◌++◌, Option, Some, None, length, map, slice_get, slice_set, slice_index_or, take, replicate}
 use Rattle.ms_world.specs.declared.client.Bidding.{Bidding}
 use Rattle.ms_world.specs.declared.client.Request.{Request}
+use Rattle.ms_core.specs.Valid.{votes_of_logs}
 use Rattle.ms_record.specs.declared.ballot.Ballot.{Ballot}
 use Rattle.ms_record.specs.declared.entry.Entry.{Entry}
 use Rattle.ms_record.specs.declared.log.LogEvent.{LogEvent}
@@ -37,7 +38,7 @@ log_of w s = slice_index_or w.logs s []
 
 -- the vote list of each service
 abbrev pub votes_of_world : WorldView → ℕ → List Record
-votes_of_world w s = votes_in (log_of w s)
+votes_of_world w = votes_of_logs (log_of w)
 
 -- the votes in the part of each log that a client knows
 abbrev pub known_votes : WorldView → ClientView → ℕ → List Record

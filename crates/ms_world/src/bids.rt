@@ -17,13 +17,12 @@ use crate::placing::is_placed;
 use crate::state::State;
 use ms_base::limits::LAST_NUMBER;
 use ms_base::{ClientId, Name, NoMemory};
+use ms_record::plan::LAST_FORMAT;
 use ms_record::{Ballot, Entry, Plan, Record, Setting, Why, links_on};
 use std::alloc::Global;
 
-/// The formats before and behind a migration.
+/// The format before a migration, which goes to the last one.
 const FIRST_FORMAT: u32 = 1;
-
-const LAST_FORMAT: u32 = 2;
 
 impl State {
     /// The client bids for the position behind its chain, or the condition that fails.

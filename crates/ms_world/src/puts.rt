@@ -1,18 +1,20 @@
 //! What the logs have of a generation, by name.
 
 ghost use Rattle.std.specs.Prelude.{◌≡◌, ◌<◌, ◌==◌, ◌||◌, ◌∷◌, ◌++◌, [], ℕ, true, false, List, OnOk, IfOk, length, count_by, replicate, slice_index_or};
+ghost use Rattle.ms_base.specs.declared.limits.TheConstants.{SERVICES};
 ghost use Rattle.ms_world.specs.PutTexts.{text_put_by};
 ghost use Rattle.ms_world.specs.Puts.{AddsTexts, Knows, text_under};
 ghost use Rattle.ms_record.specs.declared.log.LogEvent.{LogEvent};
 
 use crate::service::Log;
+use ms_base::limits::SERVICES;
 use ms_base::{Name, NoMemory, ServiceId};
 use ms_record::{LogEvent, PlanRow};
 use std::alloc::Global;
 use std::collections::BTreeMap;
 
 /// The greatest number of services of a plan.
-const MOST_SERVICES: usize = 16;
+const MOST_SERVICES: usize = SERVICES as usize;
 
 /// What was put under a name in a generation.
 #[derive(Clone, Copy)]
@@ -29,7 +31,7 @@ pub(crate) type Puts<'a> = BTreeMap<Name, Found<'a>>;
 impl<'a> Found<'a> {
     fn new(text: &'a [u8]) -> Found<'a>
         ensures text { result.text.now ≡ text.now }
-        ensures services { result.services ≡ replicate 16 false }
+        ensures services { result.services ≡ replicate SERVICES false }
     {
         Found {
             text,
@@ -40,7 +42,7 @@ impl<'a> Found<'a> {
     /// Marks a service, if a plan can name it.
     fn mark(&mut self, service: usize)
         ensures text { self.new.text.now ≡ self.old.text.now }
-        ensures services { (s : ℕ) → s < 16 → slice_index_or self.new.services s false ≡ (slice_index_or self.old.services s false || (s == service)) }
+        ensures services { (s : ℕ) → s < SERVICES → slice_index_or self.new.services s false ≡ (slice_index_or self.old.services s false || (s == service)) }
     {
         if service < MOST_SERVICES {
             self.services[service] = true;

@@ -1,10 +1,11 @@
 //! What holds of each world that a run has reached.
 
 ghost use Rattle.std.specs.Prelude.{◌≡◌, ◌+◌, ◌≤◌, ◌++◌, ◌∷◌, [], List, length};
+ghost use Rattle.ms_base.specs.declared.limits.TheConstants.{LAST_NUMBER};
 ghost use Rattle.ms_world.specs.declared.event.Event.{Event};
 ghost use Rattle.ms_world.specs.Held.{IsReached};
 ghost use Rattle.ms_world.specs.States.{IsState, KnowsOne};
-ghost use Rattle.ms_world.specs.Steps.{IsEvent, Step, last_number};
+ghost use Rattle.ms_world.specs.Steps.{IsEvent, Step};
 ghost use Rattle.ms_world.specs.Worlds.{WorldView, votes_of_world};
 ghost use Rattle.ms_record.specs.declared.entry.Entry.{Entry};
 ghost use Rattle.ms_record.specs.declared.setting.Setting.{Setting};
@@ -12,8 +13,7 @@ ghost use Rattle.ms_record.specs.Chains.{IsChain, IsLinked, voters_behind};
 ghost use Rattle.ms_record.specs.Settings.{IsSetting, origin_of};
 ghost use Rattle.ms_record.specs.Votes.{ChosenBy};
 
-use ms_record::law::{masters_agree, one_chain};
-use ms_record::record::one_spelling;
+use ms_record::law::chain_laws;
 
 /// A run goes on by an event that can happen, and a linked list then stays one.
 pub(crate) fn runs_go_on()
@@ -23,9 +23,7 @@ pub(crate) fn runs_go_on()
         → IsLinked (votes_of_world w) (origin_of setting) chain
         → IsLinked (votes_of_world new) (origin_of setting) chain }
 {
-    masters_agree();
-    one_chain();
-    one_spelling();
+    chain_laws();
 }
 
 /// What a state keeps, and that by what a client knows of its voters two entries chosen behind its chain are one.
@@ -34,15 +32,13 @@ pub(crate) fn states_hold()
     ensures present { (setting : Setting) (w : WorldView) → IsSetting setting → IsReached setting w → length w.clients ≡ setting.clients }
     ensures known_one { (setting : Setting) (w : WorldView) → IsSetting setting → IsReached setting w → KnowsOne setting w }
 {
-    masters_agree();
-    one_chain();
-    one_spelling();
+    chain_laws();
 }
 
 /// A linked list goes on with the entry that is chosen behind it; where none is, it is the chain, of which there is one.
 pub(crate) fn chains_go_on()
     ensures short { (setting : Setting) (w : WorldView) (chain : List Entry) → IsSetting setting → IsReached setting w
-        → IsLinked (votes_of_world w) (origin_of setting) chain → length chain ≤ last_number }
+        → IsLinked (votes_of_world w) (origin_of setting) chain → length chain ≤ LAST_NUMBER }
     ensures goes_on { (setting : Setting) (w : WorldView) (chain : List Entry) (e : Entry) → IsSetting setting → IsReached setting w
         → IsLinked (votes_of_world w) (origin_of setting) chain
         → ChosenBy (votes_of_world w) (voters_behind (origin_of setting) chain) (length chain + 1) e
@@ -52,13 +48,11 @@ pub(crate) fn chains_go_on()
         → ((e : Entry) → ¬ ChosenBy (votes_of_world w) (voters_behind (origin_of setting) chain) (length chain + 1) e)
         → IsChain (votes_of_world w) (origin_of setting) chain }
     ensures full { (setting : Setting) (w : WorldView) (chain : List Entry) → IsSetting setting → IsReached setting w
-        → IsLinked (votes_of_world w) (origin_of setting) chain → last_number ≤ length chain
+        → IsLinked (votes_of_world w) (origin_of setting) chain → LAST_NUMBER ≤ length chain
         → IsChain (votes_of_world w) (origin_of setting) chain }
     ensures one { (setting : Setting) (w : WorldView) (a b : List Entry) → IsSetting setting → IsReached setting w
         → IsChain (votes_of_world w) (origin_of setting) a
         → IsChain (votes_of_world w) (origin_of setting) b → a ≡ b }
 {
-    masters_agree();
-    one_chain();
-    one_spelling();
+    chain_laws();
 }

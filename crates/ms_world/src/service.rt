@@ -1,7 +1,7 @@
 //! What happened to a service.
 
 ghost use Rattle.std.specs.Prelude.{◌≡◌, ◌++◌, ◌∷◌, [], List, length, option_to_list, take, OnOk, OnErr};
-ghost use Rattle.ms_core.specs.Floors.{IsFloor};
+ghost use Rattle.ms_record.specs.Floors.{IsFloor};
 ghost use Rattle.ms_record.specs.declared.log.LogEvent.{LogEvent};
 ghost use Rattle.ms_record.specs.Logs.{votes_in};
 
@@ -27,7 +27,7 @@ impl Model for Log {
 
     ghost view = { λ log. log.events.items };
 
-    ghost use Rattle.ms_core.specs.Floors.{IsFloor};
+    ghost use Rattle.ms_record.specs.Floors.{IsFloor};
 
     ghost invariant = { λ log. IsFloor log.events.items log.floor };
 }

@@ -2,8 +2,8 @@
 
 ghost use Rattle.std.specs.Prelude.{◌≡◌, ◌≤◌, ◌<◌, ◌++◌, length, map, replicate, slice_set, slice_get, [], Some, IfOk, IfErr, OnOk, OnErr};
 ghost use Rattle.ms_world.specs.declared.event.Event.TheVariants as events;
-ghost use Rattle.ms_world.specs.Refusals.{MayLackMemory, Tries};
-ghost use Rattle.ms_world.specs.States.{IsDown, IsState};
+ghost use Rattle.ms_world.specs.Refusals.{IsDown, MayLackMemory, Tries};
+ghost use Rattle.ms_world.specs.States.{IsState};
 ghost use Rattle.ms_world.specs.Steps.{IsUp};
 ghost use Rattle.ms_world.specs.Worlds.{RequestView, new_client, services_of, start_world, to_all};
 ghost use Rattle.ms_record.specs.declared.setting.Setting.{Setting};

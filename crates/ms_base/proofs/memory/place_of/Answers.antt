@@ -1,4 +1,4 @@
-use Rattle.std.proofs.Common.{◌≡◌, sym, ap, ◌∙◌, true, false, get_or}
+use Rattle.std.proofs.Common.{◌≡◌, sym, ◌∙◌, true, false, get_or}
 use Rattle.std.specs.Prelude.{bytes_eq}
 use Rattle.ms_base.proofs.Naming.{named_here, named_on}
 use Rattle.ms_base.proofs.memory.place_of.Goals as goal

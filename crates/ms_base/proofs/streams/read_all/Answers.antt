@@ -1,4 +1,4 @@
-use Rattle.std.proofs.Common.{◌≤◌, length, take, length-take, arith}
+use Rattle.std.proofs.Common.{length-take, arith}
 use Rattle.ms_base.proofs.Known.{piece_ends}
 use Rattle.ms_base.proofs.streams.read_all.Goals as goal
 

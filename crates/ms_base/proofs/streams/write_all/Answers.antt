@@ -1,6 +1,4 @@
-use Rattle.std.proofs.Common.{◌+◌, take, drop, take-add, length-drop, arith, ◌∙◌}
-use Rattle.std.specs.Prelude.{List, ℕ}
-use Rattle.std.specs.Io.KnownBytes.{Appends}
+use Rattle.std.proofs.Common.{take-add, length-drop, arith, ◌∙◌}
 use Rattle.std.proofs.lemmas.List.{take_rest}
 use Rattle.ms_base.proofs.Known.{appends_on}
 use Rattle.ms_base.proofs.streams.write_all.Goals as goal

@@ -1,7 +1,7 @@
 use Rattle.std.proofs.Common.{◌∷◌, [], List, ap, ◌∙◌, length, slice_get}
 use Rattle.std.specs.List.{filter_map}
 use Rattle.std.proofs.lemmas.List.Elements.{filter_map-append}
-use Rattle.ms_core.proofs.Places.{at_end}
+use Rattle.ms_base.specs.Places.{at_end}
 use Rattle.ms_core.specs.Views.{offers_told, owner_of_client}
 use Rattle.ms_ken.specs.Lists.{list_at}
 use Rattle.ms_ken.specs.Rows.{item_else, item_here}

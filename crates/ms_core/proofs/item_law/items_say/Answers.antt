@@ -1,6 +1,7 @@
 use Rattle.std.proofs.Common.{refl}
-use Rattle.ms_core.proofs.Spelled.{record_there, text_there}
-use Rattle.ms_core.proofs.Telling.{at_contains, contains_at, in_log, into_item}
+use Rattle.ms_record.specs.ListTexts.{record_there, text_there}
+use Rattle.ms_base.specs.Places.{at_contains, contains_at}
+use Rattle.ms_core.proofs.Telling.{in_log, into_item}
 use Rattle.ms_core.specs.Views.{log_in, owner_of_client}
 use Rattle.ms_ken.specs.Lists.{list_at}
 use Rattle.ms_record.specs.declared.item.Item.TheVariants.{Log, Offer}

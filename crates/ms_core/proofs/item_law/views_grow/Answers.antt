@@ -3,7 +3,7 @@ use Rattle.std.specs.List.{filter_map}
 use Rattle.std.proofs.lemmas.List.Elements.{Contains-append_left, filter_map-append}
 use Rattle.ms_core.specs.Closing.{logs_grow, offered_stays, whole_stays}
 use Rattle.ms_core.specs.Growth.{linked_grows, valid_grows}
-use Rattle.ms_core.specs.Valid.{plan_behind}
+use Rattle.ms_core.specs.Valid.{judging_plan}
 use Rattle.ms_core.specs.Views.{log_in, owner_of_client, votes_told}
 use Rattle.ms_ken.specs.Lists.{list_at}
 use Rattle.ms_record.specs.declared.log.LogEvent.{LogEvent}
@@ -49,9 +49,9 @@ returns-clause-master c = λ old new setting k e begins master.
     let g = logs_grow old new begins in
     record {
       valid = valid_grows setting (log_in old) (log_in new) k e g master.valid;
-      whole = whole_stays (log_in old) (log_in new) (plan_behind setting master.valid.next.members e) e.version g master.whole;
+      whole = whole_stays (log_in old) (log_in new) (judging_plan setting master.valid.next.members e) e.version g master.whole;
     }
 
 pub returns-clause-next : goal.returns-clause-next
 returns-clause-next c = λ old new setting members e begins next.
-    record { links = next.links; whole = whole_stays (log_in old) (log_in new) (plan_behind setting members e) e.version (logs_grow old new begins) next.whole }
+    record { links = next.links; whole = whole_stays (log_in old) (log_in new) (judging_plan setting members e) e.version (logs_grow old new begins) next.whole }

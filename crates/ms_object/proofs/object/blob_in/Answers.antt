@@ -2,10 +2,10 @@ use Rattle.std.proofs.Common.{◌≡◌, ℕ, List, ◌∷◌, Some, sym, ap, su
 use Rattle.std.specs.Prelude.{◌&&◌, ◌==◌, nat_le}
 use Rattle.std.proofs.lemmas.Bool.{eqb-true}
 use Rattle.std.proofs.Common.{eq-eqb}
+use Rattle.ms_base.specs.Options.{both}
 use Rattle.ms_object.specs.declared.object.Object.{Object}
 use Rattle.ms_object.specs.Objects.{Spells, blob_size, blob_tag, least_blob}
 use Rattle.ms_object.specs.Reading.{blob_bytes, object_at}
-use Rattle.ms_object.proofs.FieldLaws.{both}
 use Rattle.ms_object.proofs.ObjectLaws.{blob_found, blob_only, nothing_there, tagged_test, text_begins}
 use Rattle.ms_object.proofs.object.blob_in.Goals as goal
 

@@ -1,3 +1,4 @@
+use Rattle.ms_record.proofs.ChainFound.{chain_found}
 use Rattle.ms_record.proofs.ChainLaws.{none_linked, linked_front, linked_begins, linked_same, linked_push, member_chosen, chosen_stands}
 use Rattle.ms_record.proofs.law.one_chain.Goals as goal
 
@@ -27,3 +28,6 @@ returns-clause-one_list x = λ votes origin c d agree hc hd h. linked_same votes
 
 pub returns-clause-stands : goal.returns-clause-stands
 returns-clause-stands x = λ votes origin chain i e agree next chain_is chosen. chosen_stands votes origin chain i e agree next chain_is chosen
+
+pub returns-clause-found : goal.returns-clause-found
+returns-clause-found x = λ votes origin one agrees known links. chain_found votes origin one agrees known links

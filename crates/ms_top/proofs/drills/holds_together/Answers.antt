@@ -7,4 +7,4 @@ returns-clause-together c = λ entries chain.
     let set = c.shows.ensures.set in
     let setting = c.args.world.now.setting in
     let w = c.args.world.now.world in
-    together w entries (c.every_run.ensures.begins setting reached.events w entries set reached.fit reached.run chain) (c.every_run.ensures.one_list setting reached.events w set reached.fit reached.run)
+    together w entries (c.every_run.ensures.begins setting w entries set reached chain) (c.every_run.ensures.one_list setting w set reached)

@@ -1,6 +1,6 @@
 use Rattle.std.proofs.Common.{◌≡◌, ◌+◌, ◌∙◌, ◌++◌, ◌∷◌, [], Option, IfSome, ℕ, List, ap, sym, subst, length, arith}
 use Rattle.std.proofs.lemmas.List.{length_push}
-use Rattle.ms_core.proofs.Living.{plan_push}
+use Rattle.ms_record.specs.InForce.{plan_push}
 use Rattle.ms_world.specs.Worlds.{WorldView, votes_of_world}
 use Rattle.ms_record.specs.declared.entry.Entry.{Entry}
 use Rattle.ms_record.specs.declared.record.Record.{Record}

@@ -1,7 +1,7 @@
 use Rattle.std.proofs.Common.{◌≡◌, ◌<◌, ◌∙◌, ℕ, List, Some, ap, sym, length, slice_get, get_or, arith}
 use Rattle.std.proofs.lemmas.Option.{slice_get-get_or}
 use Rattle.ms_world.specs.Worlds.{ClientView, WorldView}
-use Rattle.ms_core.proofs.Places.{some_same}
+use Rattle.ms_base.specs.Places.{some_same}
 use Rattle.ms_world.proofs.world.chain_length.Goals as goal
 
 item_at : (xs ys : List ClientView) (i : ℕ) (m : ClientView) → xs ≡ ys → i < length ys → m ≡ get_or xs i m → slice_get ys i ≡ Some m

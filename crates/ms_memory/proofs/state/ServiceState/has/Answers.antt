@@ -1,11 +1,10 @@
 use Rattle.std.proofs.Common.{◌≡◌, sym, subst, rules}
 use Rattle.std.specs.Prelude.{Bool, IsTrue, ◌↔◌, is_some}
 use Rattle.ms_core.specs.Views.{log_in}
-use Rattle.ms_link.specs.Links.{IsAbove}
 use Rattle.ms_memory.proofs.Serving.{above_floor, has_put}
 use Rattle.ms_memory.specs.Served.{Served}
 use Rattle.ms_memory.specs.Shelves.{text_at}
-use Rattle.ms_record.specs.Logs.{HasPut}
+use Rattle.ms_record.specs.Logs.{HasPut, NoDropAbove}
 use Rattle.ms_memory.proofs.state.ServiceState.has.Goals as goal
 
 pub returns : goal.returns
@@ -13,7 +12,7 @@ returns g c =
     let shelf = c.self.inside.shelf in
     let log = log_in c.self.inside.pass.lists c.self.inside.service.0 in
     let holds = c.self.invariant.holds in
-    let above = subst (λ (v : Served). IsAbove v.log c.args.generation) (sym c.self.view_is) c.requires in
+    let above = subst (λ (v : Served). NoDropAbove v.log c.args.generation) (sym c.self.view_is) c.requires in
     let kept = holds.kept c.args.generation c.args.name.now (above_floor log shelf.floor c.args.generation holds.floor above) in
     let is : is_some (text_at shelf.store c.args.generation c.args.name.now) ≡ c.is_some.result = search rules in
     subst (λ (v : Served). IsTrue c.is_some.result ↔ HasPut v.log c.args.generation c.args.name.now) c.self.view_is

@@ -1,5 +1,5 @@
 use Rattle.std.proofs.Common.{List, sym, subst}
-use Rattle.ms_core.specs.Floors.{IsFloor}
+use Rattle.ms_record.specs.Floors.{IsFloor}
 use Rattle.ms_record.specs.declared.log.LogEvent.{LogEvent}
 use Rattle.ms_world.proofs.service.Log.push.Goals as goal
 

@@ -16,39 +16,33 @@ returns-clause-clients c =
 pub returns-clause-agrees : goal.returns-clause-agrees
 returns-clause-agrees c =
     let v = c.self.invariant in
-    let r = v.reached in
-    subst (λ (h : HeldView). Agrees (votes_of_world h.world) (origin_of h.setting)) c.self.view_is (c.every_run.ensures.agrees c.self.inside.setting r.events c.self.inside.state v.set r.fit r.run)
+    subst (λ (h : HeldView). Agrees (votes_of_world h.world) (origin_of h.setting)) c.self.view_is (c.every_run.ensures.agrees c.self.inside.setting c.self.inside.state v.set v.reached)
 
 pub returns-clause-chain : goal.returns-clause-chain
 returns-clause-chain c =
     let v = c.self.invariant in
-    let r = v.reached in
-    subst (λ (h : HeldView). (chain : List Entry) × IsChain (votes_of_world h.world) (origin_of h.setting) chain) c.self.view_is (c.every_run.ensures.chain c.self.inside.setting r.events c.self.inside.state v.set r.fit r.run)
+    subst (λ (h : HeldView). (chain : List Entry) × IsChain (votes_of_world h.world) (origin_of h.setting) chain) c.self.view_is (c.every_run.ensures.chain c.self.inside.setting c.self.inside.state v.set v.reached)
 
 pub returns-clause-stands : goal.returns-clause-stands
 returns-clause-stands c =
     let v = c.self.invariant in
-    let r = v.reached in
     subst (λ (h : HeldView). (chain : List Entry) → IsChain (votes_of_world h.world) (origin_of h.setting) chain → (i : ℕ) (e : Entry) → IsChosen (votes_of_world h.world) (origin_of h.setting) (i + 1) e → slice_get chain i ≡ Some e)
-    c.self.view_is (λ chain. c.every_run.ensures.stands c.self.inside.setting r.events c.self.inside.state chain v.set r.fit r.run)
+    c.self.view_is (λ chain. c.every_run.ensures.stands c.self.inside.setting c.self.inside.state chain v.set v.reached)
 
 pub returns-clause-begins : goal.returns-clause-begins
 returns-clause-begins c =
     let v = c.self.invariant in
-    let r = v.reached in
     subst (λ (h : HeldView). (chain : List Entry) → IsChain (votes_of_world h.world) (origin_of h.setting) chain → (client : ℕ) (x : ClientView) → slice_get h.world.clients client ≡ Some x → Begins x.chain chain)
-    c.self.view_is (λ chain. c.every_run.ensures.begins c.self.inside.setting r.events c.self.inside.state chain v.set r.fit r.run)
+    c.self.view_is (λ chain. c.every_run.ensures.begins c.self.inside.setting c.self.inside.state chain v.set v.reached)
 
 pub returns-clause-names : goal.returns-clause-names
 returns-clause-names c =
     let v = c.self.invariant in
-    let r = v.reached in
     subst (λ (h : HeldView). (client : ℕ) (x : ClientView) → slice_get h.world.clients client ≡ Some x → Names h.setting x.chain)
-    c.self.view_is (c.every_run.ensures.names c.self.inside.setting r.events c.self.inside.state v.set r.fit r.run)
+    c.self.view_is (c.every_run.ensures.names c.self.inside.setting c.self.inside.state v.set v.reached)
 
 pub returns-clause-live : goal.returns-clause-live
 returns-clause-live c =
     let v = c.self.invariant in
-    let r = v.reached in
     subst (λ (h : HeldView). (chain : List Entry) → IsChain (votes_of_world h.world) (origin_of h.setting) chain → (i : ℕ) (e : Entry) → IsLive h.setting chain i e → StaysPlaced (log_of h.world) (plan_at h.setting chain i) e.version)
-    c.self.view_is (λ chain. c.every_run.ensures.live c.self.inside.setting r.events c.self.inside.state chain v.set r.fit r.run)
+    c.self.view_is (λ chain. c.every_run.ensures.live c.self.inside.setting c.self.inside.state chain v.set v.reached)

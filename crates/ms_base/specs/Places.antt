@@ -1,6 +1,9 @@
--- Places of a list after an append or a write.
-use Rattle.std.proofs.Common.{◌≡◌, ◌≢◌, ℕ, zero, suc, ◌+◌, List, [], ◌∷◌, ◌++◌, Some, None, ◌⊎◌, inl, inr, refl, ap, slice_get, slice_set, length, replicate, Contains, arith}
+-- Places of a list after an append or a write, and its members one at a time.
+use Rattle.std.proofs.Common.{◌≡◌, ◌≢◌, ℕ, zero, suc, ◌+◌, ◌≤◌, List, [], ◌∷◌, ◌++◌, Some, None, ◌⊎◌, inl, inr, refl, ap, ◌∙◌, slice_get, slice_set, length, replicate, map, take, subst, Contains, All, arith}
 use Rattle.std.proofs.lemmas.Bool.{cases_lt}
+use Rattle.std.proofs.lemmas.List.{take_more}
+use Rattle.std.proofs.lemmas.List.Elements.{Contains-get_or}
+use Rattle.std.proofs.lemmas.Option.{slice_get_within, get_or_from_slice_get}
 
 -- two numbers are one or not
 pub same_or_not : (i j : ℕ) → (i ≡ j) ⊎ (i ≢ j)
@@ -57,3 +60,30 @@ module _ {X : Type 0} where
   pub in_cases : (x : X) (xs : List X) (y : X) → Contains (x ∷ xs) y → (x ≡ y) ⊎ Contains xs y
   in_cases x xs y (zero, below, here) = inl here
   in_cases x xs y (suc k, below, here) = inr (k, omega arith, here)
+
+  pub at_contains : (xs : List X) (i : ℕ) (x : X) → slice_get xs i ≡ Some x → Contains xs x
+  at_contains xs i x h = (i, slice_get_within xs i x h, get_or_from_slice_get xs i x x h)
+
+  pub contains_at : (xs : List X) (x : X) → Contains xs x → (i : ℕ) × (slice_get xs i ≡ Some x)
+  contains_at [] x h = absurd (omega (arith, h.1))
+  contains_at (y ∷ xs) x (zero, below, here) = (zero, ap (λ (z : X). Some z) here)
+  contains_at (y ∷ xs) x (suc k, below, here) = let r = contains_at xs x (k, omega (arith, below), here) in (suc r.0, r.1)
+
+  -- a place has a member, or it is past the end
+  pub some_or_past : (xs : List X) (i : ℕ) → ((x : X) × (slice_get xs i ≡ Some x)) ⊎ (length xs ≤ i)
+  some_or_past [] i = inr (omega arith)
+  some_or_past (x ∷ xs) zero = inl (x, refl)
+  some_or_past (x ∷ xs) (suc i) = elim (some_or_past xs i) [ inl h ↦ inl (h.0, h.1) | inr past ↦ inr (omega (arith, past)) ]
+
+  -- a front is one member longer
+  pub take_next : (xs : List X) (i : ℕ) (x : X) → slice_get xs i ≡ Some x → take (i + 1) xs ≡ take i xs ++ x ∷ []
+  take_next xs i x at = take_more xs i x (slice_get_within xs i x at) ∙ ap (λ (y : X). take i xs ++ y ∷ []) (get_or_from_slice_get xs i x x at)
+
+  -- what is true of each member
+  pub all_from : (P : X → Type 0) (xs : List X) → ((x : X) → Contains xs x → P x) → All P xs
+  all_from P xs h = λ k d below. h _ (Contains-get_or xs k d below)
+
+pub map_has : {X Y : Type 0} (f : X → Y) (xs : List X) (x : X) → Contains xs x → Contains (map f xs) (f x)
+map_has f [] x h = absurd (in_none x h)
+map_has f (y ∷ ys) x h =
+    elim (in_cases y ys x h) [ inl same ↦ subst (λ z. Contains (f y ∷ map f ys) (f z)) same (in_here (f y) (map f ys)) | inr later ↦ in_later (f y) (map f ys) (f x) (map_has f ys x later) ]

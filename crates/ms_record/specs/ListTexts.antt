@@ -1,4 +1,4 @@
--- Where a text of a vote list stands, and its record.
+-- Where a text of a list stands, and its record.
 use Rattle.std.proofs.Common.{◌≡◌, ℕ, zero, suc, ◌==◌, Bool, true, false, cond, List, [], ◌∷◌, Option, Some, None, ◌⊎◌, inl, inr, refl, ap, ◌∙◌, slice_get, arith}
 use Rattle.std.proofs.lemmas.Bool.Decides.{nat_tests}
 use Rattle.ms_record.specs.declared.log.ListId.{ListId}
