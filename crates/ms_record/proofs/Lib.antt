@@ -7,6 +7,7 @@ mod EntryLaws
 mod EvenPlan
 mod Feeding
 mod Filling
+mod LookingOn
 mod Majorities
 mod MarkLaws
 mod Masters

@@ -27,3 +27,4 @@ pub mod ListTexts
 pub mod ChainLaws
 pub mod Floors
 pub mod OneBest
+pub mod Looks
