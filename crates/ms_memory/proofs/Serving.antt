@@ -4,7 +4,7 @@ use Rattle.std.proofs.lemmas.List.Elements.{filter_map-append}
 use Rattle.std.specs.Prelude.{IfSome, IsTrue, ◌↔◌, is_some}
 use mathlib.Core.List.{IsPrefix}
 use Rattle.ms_base.specs.declared.names.Name.{Name}
-use Rattle.ms_record.specs.Floors.{IsFloor}
+use Rattle.ms_record.specs.Floors.{IsFloor, none_above}
 use Rattle.ms_core.specs.Views.{View, configuration, log_in}
 use Rattle.ms_ken.specs.Known.{TableId, Known}
 use Rattle.ms_ken.specs.Lists.{list_at, Begins, MayFollow, longer_lists, with_told}

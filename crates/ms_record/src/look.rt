@@ -1,9 +1,10 @@
 //! A look at a vote list, record by record: what it shows of a bid.
 
-ghost use Rattle.std.specs.Prelude.{◌≡◌, ◌↔◌, ℕ, List, ◌++◌, ◌∷◌, [], IsTrue};
+ghost use Rattle.std.specs.Prelude.{◌≡◌, ◌↔◌, ℕ, List, ◌++◌, ◌∷◌, [], IfSome, IsTrue};
 ghost use Rattle.ms_record.specs.declared.ballot.Ballot.{Ballot};
 ghost use Rattle.ms_record.specs.declared.record.Record.{Record};
 ghost use Rattle.ms_record.specs.Reading.{record_at, with_record};
+ghost use Rattle.ms_record.specs.Records.{IsRecord};
 ghost use Rattle.ms_record.specs.Sights.{IsSight};
 ghost use Rattle.ms_record.specs.Looks.{HasShown, IsOfBid, after_verdict, with_promise};
 
@@ -75,6 +76,7 @@ impl Look {
     pub fn feed_text(&mut self, text: &[u8])
         ensures bid { (position : ℕ) (ballot : Ballot) → IsOfBid position ballot self.old → IsOfBid position ballot self.new }
         ensures goes_on { (records : List Record) → HasShown records self.old → HasShown (records ++ with_record (record_at text.now) []) self.new }
+        ensures ranges { IfSome (record_at text.now) IsRecord }
     {
         if let Some(message) = parse_record(text) {
             self.feed(&message);

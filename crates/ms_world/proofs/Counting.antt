@@ -1,11 +1,9 @@
--- A list of votes that goes on by one record: what it shows, and what it has taken.
+-- A list of votes that goes on by one record: what it has taken, and what a look at it shows.
 use Rattle.std.proofs.Common.{◌≡◌, ◌≢◌, ℕ, ◌+◌, ◌<◌, ◌≤◌, Bool, true, false, ◌&&◌, nat_eq, List, [], ◌∷◌, ◌++◌, Option, Some, None, Result, Ok, Err, OnOk, IfSome, IfNone, ◌⊎◌, inl, inr, refl, sym, ap, ◌∙◌, subst, slice_get, length, option_to_list, Contains, take, drop, get_or, append_assoc, take-append-drop, arith}
-use Rattle.std.proofs.lemmas.Bool.Decides.{nat_tests}
-use Rattle.std.proofs.lemmas.List.{append-nil, take_more}
+use Rattle.std.proofs.lemmas.List.{append-nil, take_all, take_more}
 use Rattle.std.proofs.lemmas.List.Elements.{Contains-append_left, Contains-push, Contains-push_cases}
 use Rattle.std.proofs.lemmas.Option.{get_or_from_slice_get, slice_get_within}
-use Rattle.ms_world.specs.Passes.{IsUnshown, AreRising, AreTaken, IsReadOf}
-use Rattle.ms_world.specs.Steps.{IsShown}
+use Rattle.ms_world.specs.Passes.{AreRising, AreTaken, IsReadOf}
 use Rattle.ms_record.specs.Growing.{votes_append}
 use Rattle.ms_base.specs.Places.{some_same, append_left, append_cases, alone}
 use Rattle.ms_record.specs.declared.acceptor.Acceptor.{Acceptor}
@@ -19,22 +17,13 @@ use Rattle.ms_record.specs.declared.record.Record.{Record}
 use Rattle.ms_record.specs.declared.record.Record.TheVariants.{Prepare, Accept}
 use Rattle.ms_record.specs.Acceptors.{IsAcceptorOf, IsVerdict, TakesNext}
 use Rattle.ms_record.specs.Ballots.{IsAtMost}
-use Rattle.ms_record.specs.Pushing.{outbid_not_promised, outbid_not_taken}
+use Rattle.ms_record.specs.declared.look.Look.{Look}
+use Rattle.ms_record.specs.declared.sight.Sight.{Sight}
+use Rattle.ms_record.specs.Looks.{HasShown, IsOfBid}
+use Rattle.ms_record.specs.Pushing.{outbid_not_taken}
+use Rattle.ms_record.specs.Sights.{IsSight}
 use Rattle.ms_record.specs.Logs.{votes_in}
 use Rattle.ms_record.specs.Votes.{position_of, ballot_of, NoneAbove, IsPromised, IsTaken, IsBest}
-
--- two ballots by the test of their numbers
-pub same_by_test : (b c : Ballot) (t : Bool) → t ≡ (nat_eq b.round c.round && nat_eq b.client.0 c.client.0) → t ≡ true → b ≡ c
-same_by_test b c t is h =
-    let r : b.round ≡ c.round = grind (arith, nat_tests) in
-    let m : b.client.0 ≡ c.client.0 = grind (arith, nat_tests) in
-    λ i. record { round = r i; client = record { 0 = m i } }
-
-pub other_by_test : (b c : Ballot) (t : Bool) → t ≡ (nat_eq b.round c.round && nat_eq b.client.0 c.client.0) → t ≡ false → b ≢ c
-other_by_test b c t is h e =
-    let r : b.round ≡ c.round = ap (λ (x : Ballot). x.round) e in
-    let m : b.client.0 ≡ c.client.0 = ap (λ (x : Ballot). x.client.0) e in
-    grind (arith, nat_tests)
 
 -- ---- the front of a longer list
 
@@ -55,19 +44,6 @@ taken_on xs ys p k b e h =
     let l = slice_get_within xs p (Accept k b e) h.stands in
     record { stands = append_left xs ys p (Accept k b e) h.stands; none_above = none_above_on xs ys p k b (omega arith) h.none_above }
 
-promised_back : (xs ys : List Record) (p k : ℕ) (b : Ballot) → p < length xs → IsPromised (xs ++ ys) p k b → IsPromised xs p k b
-promised_back xs ys p k b l h = record { stands = stands_back xs ys p (Prepare k b) l h.stands; none_above = none_above_back xs ys p k b h.none_above }
-
-best_on : (xs ys : List Record) (k p : ℕ) (best : Option Vote) → p ≤ length xs → IsBest xs k p best → IsBest (xs ++ ys) k p best
-best_on xs ys k p None w h = λ i b e l t. h i b e l (taken_back xs ys i k b e (omega arith) t)
-best_on xs ys k p (Some v) w h = record {
-  at = h.at;
-  before = h.before;
-  taken = taken_on xs ys h.at k v.ballot v.entry h.taken;
-  greatest = λ i b e l t. h.greatest i b e l (taken_back xs ys i k b e (omega arith) t);
-  last = λ i e l t. h.last i e l (taken_back xs ys i k v.ballot e (omega arith) t);
-}
-
 -- ---- one record more
 
 stands_next : (xs ys : List Record) (r : Record) → slice_get (xs ++ r ∷ ys) (length xs) ≡ Some r
@@ -85,32 +61,9 @@ place_cases xs r m i h =
       | inr t ↦ inr (omega (arith, t.1, (alone r m t.0 t.2).0))
     ]
 
--- what is promised at the new place is so whatever comes behind it
-promised_more : (xs ys : List Record) (r : Record) (k : ℕ) (b : Ballot) → IsPromised (xs ++ r ∷ []) (length xs) k b → IsPromised (xs ++ r ∷ ys) (length xs) k b
-promised_more xs ys r k b h = record {
-  stands = stands_next xs ys r ∙ ap (λ (m : Record). Some m) (next_is xs [] r (Prepare k b) h.stands);
-  none_above = none_above_on xs (r ∷ ys) (length xs) k b (omega arith) (none_above_back xs (r ∷ []) (length xs) k b h.none_above);
-}
-
 -- nothing is taken at the new place
 abbrev NotTaken : List Record → Record → ℕ → Type 0
 NotTaken xs r k = (b : Ballot) (e : Entry) → IsTaken (xs ++ r ∷ []) (length xs) k b e → ⊥
-
--- ---- a search for the first promise
-
-unshown_next : (xs : List Record) (r : Record) (k : ℕ) (b : Ballot) → (IsPromised (xs ++ r ∷ []) (length xs) k b → ⊥) → IsShown xs k b None → IsShown (xs ++ r ∷ []) k b None
-unshown_next xs r k b out h = λ p t.
-    elim (place_cases xs r (Prepare k b) p t.stands) [
-      | inl o ↦ h p (promised_back xs (r ∷ []) p k b o t)
-      | inr n ↦ out (subst (λ (i : ℕ). IsPromised (xs ++ r ∷ []) i k b) n t)
-    ]
-
--- a record is a promised Prepare of the ballot only by a verdict that says so
-pub not_promised : (xs : List Record) (r : Record) (k : ℕ) (b : Ballot) (v : Verdict) → IsVerdict xs r k v → ((best : Option Vote) → v ≡ Promised best → ballot_of r ≡ b → ⊥) → IsPromised (xs ++ r ∷ []) (length xs) k b → ⊥
-not_promised xs r k b (Promised best) h other t = other best refl (ap ballot_of (next_is xs [] r (Prepare k b) t.stands))
-not_promised xs r k b Taken h other t = (let q : Accept k h.ballot h.entry ≡ Prepare k b = sym (next_is xs [] r (Accept k h.ballot h.entry) h.taken.stands) ∙ next_is xs [] r (Prepare k b) t.stands in cc)
-not_promised xs r k b (Outbid top) h other t = outbid_not_promised xs r k top h.1 h.2 b t
-not_promised xs r k b Elsewhere h other t = h (ap position_of (next_is xs [] r (Prepare k b) t.stands))
 
 -- a record is taken only by a verdict that says so
 pub not_taken : (xs : List Record) (r : Record) (k : ℕ) (v : Verdict) → IsVerdict xs r k v → (v ≡ Taken → ⊥) → NotTaken xs r k
@@ -118,30 +71,6 @@ not_taken xs r k (Promised best) h other b e t = (let q : Prepare k h.0.ballot �
 not_taken xs r k Taken h other b e t = other refl
 not_taken xs r k (Outbid top) h other b e t = outbid_not_taken xs r k top h.1 h.2 b e t
 not_taken xs r k Elsewhere h other b e t = h (ap position_of (next_is xs [] r (Accept k b e) t.stands))
-
--- a record that is no promised Prepare of the ballot shows nothing
-pub passes : (xs : List Record) (r : Record) (b : Ballot) (a new : Acceptor) → new.position ≡ a.position → IsAcceptorOf (xs ++ r ∷ []) new → (IsPromised (xs ++ r ∷ []) (length xs) a.position b → ⊥) → IsUnshown xs b a
-    → IsUnshown (xs ++ r ∷ []) b new
-passes xs r b a new same read out h = record {
-  read = read;
-  unshown = subst (λ (k : ℕ). IsShown (xs ++ r ∷ []) k b None) (sym same) (unshown_next xs r a.position b out h.unshown);
-}
-
--- a promised Prepare of the ballot is the first one
-pub shows : (xs ys : List Record) (r : Record) (b : Ballot) (a : Acceptor) (v : Verdict) (best : Option Vote) → v ≡ Promised best → IsVerdict xs r a.position v → ballot_of r ≡ b → IsUnshown xs b a
-    → IsShown (xs ++ r ∷ ys) a.position b (Some best)
-shows xs ys r b a v best is verdict same h =
-    let k = a.position in
-    let fact = subst (λ (x : Verdict). IsVerdict xs r k x) is verdict in
-    let at : r ≡ Prepare k fact.0.ballot = next_is xs [] r (Prepare k fact.0.ballot) fact.0.promised.stands in
-    let ballots : fact.0.ballot ≡ b = sym (ap ballot_of at) ∙ same in (
-      length xs,
-      record {
-        promised = subst (λ (c : Ballot). IsPromised (xs ++ r ∷ ys) (length xs) k c) ballots (promised_more xs ys r k fact.0.ballot fact.0.promised);
-        first = λ i l t. h.unshown i (promised_back xs (r ∷ ys) i k b l t);
-      },
-      best_on xs (r ∷ ys) k (length xs) best (omega arith) fact.1,
-    )
 
 -- ---- the votes that were taken
 
@@ -210,14 +139,6 @@ reads_accept xs r a new votes more same read t is h = record {
   are_taken = subst (λ (n : ℕ). AreTaken (xs ++ r ∷ []) n more) (sym same) (subst (λ (vs : List Vote). AreTaken (xs ++ r ∷ []) a.position vs) (sym is) (reads_taken xs r a.position votes t h.are_taken));
 }
 
-pub if_some : {A : Type 0} (o : Option A) {P Q : A → Type 0} → ((x : A) → P x → Q x) → IfSome o P → IfSome o Q
-if_some None f h = h
-if_some (Some x) f h = f x h
-
-pub if_none : {A : Type 0} (o : Option A) {P Q : Type 0} → (P → Q) → IfNone o P → IfNone o Q
-if_none None f h = f h
-if_none (Some x) f h = h
-
 pub on_ok : {T E : Type 0} (r : Result T E) {P Q : Type 0} → OnOk r P → (P → Q) → OnOk r Q
 on_ok (Ok x) h f = f h
 on_ok (Err x) h f = h
@@ -236,22 +157,19 @@ event_none log event h = event_adds log [] event None h ∙ append-nil (votes_in
 pub take_item : {X : Type 0} (xs : List X) (i : ℕ) (x : X) → i < length xs → x ≡ get_or xs i x → take (i + 1) xs ≡ take i xs ++ x ∷ []
 take_item xs i x l is = take_more xs i x l ∙ ap (λ y. take i xs ++ y ∷ []) (sym is)
 
-split_item : {X : Type 0} (xs : List X) (i : ℕ) (x : X) → i < length xs → x ≡ get_or xs i x → take i xs ++ x ∷ drop (i + 1) xs ≡ xs
-split_item xs i x l is =
-    sym (append_assoc (take i xs) (x ∷ []) (drop (i + 1) xs)) ∙ ap (λ ys. ys ++ drop (i + 1) xs) (sym (take_item xs i x l is)) ∙ take-append-drop (i + 1) xs
-
--- a search along a log
-pub found_in : (log : List LogEvent) (i : ℕ) (event : LogEvent) (k : ℕ) (b : Ballot) (a : Acceptor) (best : Option Vote) → a.position ≡ k → i < length log → event ≡ get_or log i event
-    → ((front more : List LogEvent) → IsUnshown (votes_in front) b a → IsShown (votes_in (front ++ event ∷ more)) a.position b (Some best)) → IsUnshown (votes_in (take i log)) b a → IsShown (votes_in log) k b (Some best)
-found_in log i event k b a best same l is found h =
-    subst (λ (p : ℕ). IsShown (votes_in log) p b (Some best)) same
-    (subst (λ (zs : List LogEvent). IsShown (votes_in zs) a.position b (Some best)) (split_item log i event l is) (found (take i log) (drop (i + 1) log) h))
-
-pub passed : (log : List LogEvent) (i : ℕ) (event : LogEvent) (b : Ballot) (a new : Acceptor) → i < length log → event ≡ get_or log i event
-    → ((front : List LogEvent) → IsUnshown (votes_in front) b a → IsUnshown (votes_in (front ++ event ∷ [])) b new) → IsUnshown (votes_in (take i log)) b a → IsUnshown (votes_in (take (i + 1) log)) b new
-passed log i event b a new l is goes h = subst (λ (zs : List LogEvent). IsUnshown (votes_in zs) b new) (sym (take_item log i event l is)) (goes (take i log) h)
-
 -- reading along a log
 pub read_on : (log : List LogEvent) (i : ℕ) (event : LogEvent) (a new : Acceptor) (votes more : List Vote) → i < length log → event ≡ get_or log i event
     → ((front : List LogEvent) → IsReadOf (votes_in front) a votes → IsReadOf (votes_in (front ++ event ∷ [])) new more) → IsReadOf (votes_in (take i log)) a votes → IsReadOf (votes_in (take (i + 1) log)) new more
 read_on log i event a new votes more l is goes h = subst (λ (zs : List LogEvent). IsReadOf (votes_in zs) new more) (sym (take_item log i event l is)) (goes (take i log) h)
+
+-- looking along a log
+pub look_on : (log : List LogEvent) (i : ℕ) (event : LogEvent) (old new : Look) → i < length log → event ≡ get_or log i event
+    → ((front : List LogEvent) → HasShown (votes_in front) old → HasShown (votes_in (front ++ event ∷ [])) new) → HasShown (votes_in (take i log)) old → HasShown (votes_in (take (i + 1) log)) new
+look_on log i event old new l is goes h = subst (λ (zs : List LogEvent). HasShown (votes_in zs) new) (sym (take_item log i event l is)) (goes (take i log) h)
+
+pub look_ends : (log : List LogEvent) (i k : ℕ) (b : Ballot) (look : Look) (sight : Sight) → length log ≤ i → IsOfBid k b look → HasShown (votes_in (take i log)) look
+    → ((records : List Record) → HasShown records look → IsSight records look.acceptor.position look.ballot sight) → IsSight (votes_in log) k b sight
+look_ends log i k b look sight all of h shows =
+    subst (λ (zs : List LogEvent). IsSight (votes_in zs) k b sight) (take_all i log all)
+    (subst (λ (n : ℕ). IsSight (votes_in (take i log)) n b sight) of.position_is
+    (subst (λ (c : Ballot). IsSight (votes_in (take i log)) look.acceptor.position c sight) of.ballot_is (shows (votes_in (take i log)) h)))

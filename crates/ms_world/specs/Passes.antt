@@ -1,6 +1,5 @@
 -- What one pass over a list of votes keeps, and what the votes of several lists come to.
-use Rattle.std.specs.Prelude.{◌≡◌, ℕ, ◌≤◌, Bool, true, List, [], Option, Some, None, length, slice_get, slice_index_or, count_by, is_some, Contains}
-use Rattle.ms_world.specs.Steps.{IsShown}
+use Rattle.std.specs.Prelude.{◌≡◌, ℕ, ◌≤◌, Bool, true, List, [], Option, Some, None, length, slice_get, slice_index_or, count_by, Contains}
 use Rattle.ms_record.specs.declared.acceptor.Acceptor.{Acceptor}
 use Rattle.ms_record.specs.declared.ballot.Ballot.{Ballot}
 use Rattle.ms_record.specs.declared.ballot.Vote.{Vote}
@@ -8,12 +7,9 @@ use Rattle.ms_record.specs.declared.entry.Entry.{Entry}
 use Rattle.ms_record.specs.declared.record.Record.{Record}
 use Rattle.ms_record.specs.Acceptors.{IsAcceptorOf}
 use Rattle.ms_record.specs.Ballots.{IsAtMost}
+use Rattle.ms_record.specs.declared.sight.Sight.{Sight}
+use Rattle.ms_record.specs.Sights.{IsSight}
 use Rattle.ms_record.specs.Votes.{IsTaken, IsMajority, services_below}
-
--- the acceptor has read these records, and none of them is a promised Prepare of the ballot
-pub record IsUnshown (records : List Record) (ballot : Ballot) (acceptor : Acceptor) : Type 0 where
-  pub read : IsAcceptorOf records acceptor
-  pub unshown : IsShown records acceptor.position ballot None
 
 -- the ballots of the votes do not fall
 abbrev pub AreRising : List Vote → Type 0
@@ -36,22 +32,26 @@ pub record HaveMost (lists : List (List Vote)) (vote : Vote) : Type 0 where
   pub majority : IsMajority part (services_below (length lists))
   pub have : (s : ℕ) → part s ≡ true → Contains (slice_index_or lists s []) vote
 
+-- the list at this place shows this Best
+abbrev pub ShowsBest : List Sight → ℕ → Vote → Type 0
+ShowsBest seen s vote = (sight : Sight) × (slice_get seen s ≡ Some sight) × (sight.best ≡ Some vote)
+
 -- of the Bests that were seen, that of greatest ballot, the first of several
-pub record IsFirstGreatest (seen : List (Option (Option Vote))) (vote : Vote) : Type 0 where
+pub record IsFirstGreatest (seen : List Sight) (vote : Vote) : Type 0 where
   pub service : ℕ
-  pub has : slice_get seen service ≡ Some (Some (Some vote))
-  pub greatest : (s : ℕ) (v : Vote) → slice_get seen s ≡ Some (Some (Some v)) → IsAtMost v.ballot vote.ballot
-  pub least : (s : ℕ) (v : Vote) → slice_get seen s ≡ Some (Some (Some v)) → v.ballot ≡ vote.ballot → service ≤ s
+  pub has : ShowsBest seen service vote
+  pub greatest : (s : ℕ) (v : Vote) → ShowsBest seen s v → IsAtMost v.ballot vote.ballot
+  pub least : (s : ℕ) (v : Vote) → ShowsBest seen s v → v.ballot ≡ vote.ballot → service ≤ s
 
 -- the greatest of the Bests that were seen; none where there is no Best
-abbrev pub IsGreatestSeen : List (Option (Option Vote)) → Option Vote → Type 0
-IsGreatestSeen seen None = (s : ℕ) (v : Vote) → slice_get seen s ≡ Some (Some (Some v)) → ⊥
+abbrev pub IsGreatestSeen : List Sight → Option Vote → Type 0
+IsGreatestSeen seen None = (s : ℕ) (v : Vote) → ShowsBest seen s v → ⊥
 IsGreatestSeen seen (Some vote) = IsFirstGreatest seen vote
 
 -- of the first n lists so many show a promised Prepare of the ballot, and this is the greatest of their Bests
 pub record ArePromises (votes : ℕ → List Record) (position : ℕ) (ballot : Ballot) (n count : ℕ) (greatest : Option Vote) : Type 0 where
-  pub seen : List (Option (Option Vote))
+  pub seen : List Sight
   pub each : length seen ≡ n
-  pub shown : (s : ℕ) (o : Option (Option Vote)) → slice_get seen s ≡ Some o → IsShown (votes s) position ballot o
-  pub count_is : count ≡ count_by is_some seen
+  pub shown : (s : ℕ) (sight : Sight) → slice_get seen s ≡ Some sight → IsSight (votes s) position ballot sight
+  pub count_is : count ≡ count_by (λ (sight : Sight). sight.promised) seen
   pub greatest_is : IsGreatestSeen seen greatest

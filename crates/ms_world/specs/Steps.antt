@@ -261,10 +261,3 @@ IsEvent (events.Bid client round (Some push)) = (push.number < 2 ^ 32) × (lengt
 IsEvent (events.Turn client round number plan) = (number < 2 ^ 32) × IsPlan plan
 IsEvent (events.Migrate client round number version) = (number < 2 ^ 32) × (length version.0 ≡ 32)
 IsEvent _ = Unit {0}
-
--- ---- what the code decides of lists of votes
-
--- the list shows no promised Prepare of the ballot, or the first one behind this Best
-abbrev pub IsShown : List Record → ℕ → Ballot → Option (Option Vote) → Type 0
-IsShown records position ballot None = (place : ℕ) → IsPromised records place position ballot → ⊥
-IsShown records position ballot (Some best) = (place : ℕ) × IsFirstPromised records place position ballot × IsBest records position place best

@@ -1,18 +1,19 @@
 //! What a bidder may offer.
 
-ghost use Rattle.std.specs.Prelude.{◌≡◌, ◌+◌, ◌^◌, ◌<◌, ◌++◌, ◌∷◌, [], ℕ, List, Option, Some, IsSomeAnd, length, true, false};
+ghost use Rattle.std.specs.Prelude.{◌≡◌, ◌+◌, ◌^◌, ◌<◌, ◌++◌, ◌∷◌, [], ℕ, List, Some, IsSomeAnd, length, true, false};
 ghost use Rattle.ms_world.specs.Rulings.{IsRuling, votes_at};
 ghost use Rattle.ms_world.specs.Passes.{ArePromises, IsGreatestSeen};
-ghost use Rattle.ms_world.specs.Steps.{IsShown};
 ghost use Rattle.ms_record.specs.declared.ballot.Ballot.{Ballot};
 ghost use Rattle.ms_record.specs.declared.ballot.Vote.{Vote};
 ghost use Rattle.ms_record.specs.declared.record.Record.{Record};
+ghost use Rattle.ms_record.specs.declared.sight.Sight.{Sight};
 ghost use Rattle.ms_record.specs.Ballots.{IsAtMost, IsBelow};
+ghost use Rattle.ms_record.specs.Sights.{IsSight};
 ghost use Rattle.ms_record.specs.Votes.{services_below};
 
 use crate::front::Front;
 use crate::shown::shown;
-use ms_record::{Ballot, Entry, Vote};
+use ms_record::{Ballot, Entry, Sight, Vote};
 
 /// What a bidder may offer.
 #[derive(Clone, Copy, Debug, PartialEq, Eq)]
@@ -24,10 +25,10 @@ pub enum Ruling {
     Offer { entry: Entry },
 }
 
-/// The logs that show a promised Prepare of a ballot.
+/// What the logs show that were looked at so far.
 #[derive(Clone, Copy)]
 struct Promises {
-    /// How many there are.
+    /// How many show a promised Prepare of the ballot.
     count: usize,
     /// The greatest of their Bests, at the least service of several.
     greatest: Option<Vote>,
@@ -35,22 +36,22 @@ struct Promises {
 
 impl Promises {
     /// Goes on by what one more log shows.
-    fn add(&mut self, seen: Option<Option<Vote>>)
+    fn add(&mut self, seen: &Sight)
         requires { self.old.count < 2 ^ 63 }
-        ensures { (votes : ℕ → List Record) (position : ℕ) (ballot : Ballot) (n : ℕ) → IsShown (votes n) position ballot seen
+        ensures { (votes : ℕ → List Record) (position : ℕ) (ballot : Ballot) (n : ℕ) → IsSight (votes n) position ballot seen.now
             → ArePromises votes position ballot n self.old.count self.old.greatest
             → ArePromises votes position ballot (n + 1) self.new.count self.new.greatest }
     {
-        if let Some(best) = seen {
+        self.greatest = greater(&self.greatest, &seen.best);
+        if seen.promised {
             self.count += 1;
-            self.greatest = greater(&self.greatest, &best);
         }
     }
 }
 
 /// The greater of what was found so far and the Best of one more log.
 fn greater(found: &Option<Vote>, best: &Option<Vote>) -> Option<Vote>
-    ensures { (seen : List (Option (Option Vote))) → IsGreatestSeen seen found.now → IsGreatestSeen (seen ++ Some best.now ∷ []) result }
+    ensures { (seen : List Sight) (sight : Sight) → sight.best ≡ best.now → IsGreatestSeen seen found.now → IsGreatestSeen (seen ++ sight ∷ []) result }
 {
     match best {
         Some(vote) => {
@@ -89,7 +90,7 @@ pub(crate) fn rule(
         greatest: None,
     };
     for log in logs {
-        promises.add(shown(log.as_slice(), position, ballot));
+        promises.add(&shown(log.as_slice(), position, ballot));
     }
     if promises.count <= logs.len() - promises.count {
         return Ruling::Unpromised;

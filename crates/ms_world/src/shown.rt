@@ -1,56 +1,32 @@
 //! What a log shows to a bidder.
 
-ghost use Rattle.std.specs.Prelude.{◌≡◌, ◌++◌, ◌∷◌, [], List, Some, IfNone, IfSome};
-ghost use Rattle.ms_world.specs.Passes.{IsUnshown};
-ghost use Rattle.ms_world.specs.Steps.{IsShown};
+ghost use Rattle.std.specs.Prelude.{◌++◌, ◌∷◌, [], ℕ, List};
+ghost use Rattle.ms_record.specs.declared.ballot.Ballot.{Ballot};
 ghost use Rattle.ms_record.specs.declared.log.LogEvent.{LogEvent};
-ghost use Rattle.ms_record.specs.declared.record.Record.{Record};
 ghost use Rattle.ms_record.specs.Logs.{votes_in};
+ghost use Rattle.ms_record.specs.Looks.{HasShown, IsOfBid};
+ghost use Rattle.ms_record.specs.Sights.{IsSight};
 
 use crate::service::record_in;
-use ms_record::{Acceptor, Ballot, LogEvent, Record, Verdict, Vote};
-
-/// Goes on by one record; the Best before it, where it is a promised Prepare of the ballot.
-fn finds(acceptor: &mut Acceptor, message: &Record, ballot: Ballot) -> Option<Option<Vote>>
-    ensures position { acceptor.new.position ≡ acceptor.old.position }
-    ensures found { IfSome result (λ best. (records more : List Record) → IsUnshown records ballot acceptor.old
-        → IsShown (records ++ message.now ∷ more) acceptor.old.position ballot (Some best)) }
-    ensures goes_on { IfNone result ((records : List Record) → IsUnshown records ballot acceptor.old
-        → IsUnshown (records ++ message.now ∷ []) ballot acceptor.new) }
-{
-    let Verdict::Promised { best } = acceptor.feed(message) else {
-        return None;
-    };
-    if message.ballot() == ballot {
-        return Some(best);
-    }
-    None
-}
+use ms_record::{Ballot, LogEvent, Look, Sight};
 
 /// Goes on by one event, as by the record that it adds.
-fn finds_in(acceptor: &mut Acceptor, event: &LogEvent, ballot: Ballot) -> Option<Option<Vote>>
-    ensures position { acceptor.new.position ≡ acceptor.old.position }
-    ensures found { IfSome result (λ best. (log more : List LogEvent) → IsUnshown (votes_in log) ballot acceptor.old
-        → IsShown (votes_in (log ++ event.now ∷ more)) acceptor.old.position ballot (Some best)) }
-    ensures goes_on { IfNone result ((log : List LogEvent) → IsUnshown (votes_in log) ballot acceptor.old
-        → IsUnshown (votes_in (log ++ event.now ∷ [])) ballot acceptor.new) }
+fn feed_event(look: &mut Look, event: &LogEvent)
+    ensures bid { (position : ℕ) (ballot : Ballot) → IsOfBid position ballot look.old → IsOfBid position ballot look.new }
+    ensures goes_on { (log : List LogEvent) → HasShown (votes_in log) look.old → HasShown (votes_in (log ++ event.now ∷ [])) look.new }
 {
-    match record_in(event) {
-        Some(message) => finds(acceptor, &message, ballot),
-        None => None,
+    if let Some(message) = record_in(event) {
+        look.feed(&message);
     }
 }
 
-/// What the log shows to the bidder of the ballot: `None` without a promised Prepare of it, else the taken Accept of
-/// greatest ballot before the first one, the last of several.
-pub fn shown(log: &[LogEvent], position: u32, ballot: Ballot) -> Option<Option<Vote>>
-    ensures { IsShown (votes_in log.now) position ballot result }
+/// What the log shows of the bid of a ballot at a position: `docs/PROTOCOL.md`, bids.
+pub fn shown(log: &[LogEvent], position: u32, ballot: Ballot) -> Sight
+    ensures { IsSight (votes_in log.now) position ballot result }
 {
-    let mut acceptor = Acceptor::at(position);
+    let mut look = Look::at(position, ballot);
     for event in log {
-        if let Some(best) = finds_in(&mut acceptor, event, ballot) {
-            return Some(best);
-        }
+        feed_event(&mut look, event);
     }
-    None
+    look.sight()
 }

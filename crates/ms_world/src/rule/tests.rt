@@ -102,16 +102,17 @@ fn log_of(alloc: Global, records: &[Record]) -> Result<Vec<LogEvent>, NoMemory> 
 /// The records of a log, a ballot, and what the log shows of it.
 #[test]
 fn a_log_shows_the_first_promise(rt: HostRuntime) -> Result<(), Fail> {
-    let cases: [(&[Record], Ballot, Option<Option<Vote>>); 5] = [
-        (&[], LOW, None),
-        (&[PREPARE, PREPARE_LOW], LOW, None),
-        (&[PREPARE_LOW, PREPARE], LOW, Some(None)),
-        (&[ACCEPT_LOW, PREPARE], MIDDLE, Some(Some(LOW_VOTE))),
-        (&[PREPARE_HIGH, ACCEPT_LOW, PREPARE_HIGH], HIGH, Some(None)),
+    let cases: [(&[Record], Ballot, bool, Option<Vote>); 5] = [
+        (&[], LOW, false, None),
+        (&[PREPARE, PREPARE_LOW], LOW, false, None),
+        (&[PREPARE_LOW, PREPARE], LOW, true, None),
+        (&[ACCEPT_LOW, PREPARE], MIDDLE, true, Some(LOW_VOTE)),
+        (&[PREPARE_HIGH, ACCEPT_LOW, PREPARE_HIGH], HIGH, true, None),
     ];
-    for (records, ballot, want) in &cases {
+    for (records, ballot, promised, best) in &cases {
         let log = log_of(rt.alloc(), records)?;
-        assert_eq!(rt; shown(&log, 1, *ballot), *want);
+        let sight = shown(&log, 1, *ballot);
+        assert_eq!(rt; (sight.promised, sight.best), (*promised, *best));
     }
     Ok(())
 }

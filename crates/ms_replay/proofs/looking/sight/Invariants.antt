@@ -1,6 +1,6 @@
 use Rattle.std.proofs.Common.{take}
 use Rattle.ms_record.specs.Reading.{votes_of}
-use Rattle.ms_replay.specs.Looks.{HasShown, IsOfBid}
+use Rattle.ms_record.specs.Looks.{HasShown, IsOfBid}
 use Rattle.ms_replay.proofs.LookingOn.{AreRecords}
 use Rattle.ms_replay.proofs.looking.sight.Given as goal
 

@@ -1,15 +1,11 @@
-use Rattle.std.proofs.Common.{◌∙◌}
-use Rattle.ms_world.proofs.Counting.{found_in, passed}
+use Rattle.ms_world.proofs.Counting.{look_ends, look_on}
 use Rattle.ms_world.proofs.shown.shown.Goals as goal
-
-pub returns-in-Some : goal.returns-in-Some
-returns-in-Some c =
-    found_in c.args.log.now c.loop-event.event-index c.event-item.result c.args.position c.args.ballot c.loop-event.acceptor c.in-Some.best c.loop-event.invariant.position c.loop-event-test.true c.event-item.is
-    c.in-Some.ensures.found c.loop-event.invariant.unshown
 
 pub loop-event-preserved : goal.loop-event-preserved
 loop-event-preserved c = record {
-  position = c.finds_in.ensures.position ∙ c.loop-event.invariant.position;
-  unshown = passed c.args.log.now c.loop-event.event-index c.event-item.result c.args.ballot c.loop-event.acceptor c.finds_in.new.acceptor c.loop-event-test.true c.event-item.is c.in_default.ensures.goes_on
-      c.loop-event.invariant.unshown;
+  bid = c.feed_event.ensures.bid c.args.position c.args.ballot c.loop-event.invariant.bid;
+  shown = look_on c.args.log.now c.loop-event.event-index c.event-item.result c.loop-event.look c.feed_event.new.look c.loop-event-test.true c.event-item.is c.feed_event.ensures.goes_on c.loop-event.invariant.shown;
 }
+
+pub returns : goal.returns
+returns c = look_ends c.args.log.now c.loop-event.event-index c.args.position c.args.ballot c.loop-event.look c.sight.result c.loop-event-test.false c.loop-event.invariant.bid c.loop-event.invariant.shown c.sight.ensures

@@ -1,7 +1,7 @@
 use Rattle.std.proofs.Common.{◌≡◌, true, rules}
 use Rattle.ms_link.specs.Links.{LinkView, log_known}
 use Rattle.ms_memory.proofs.Linking.{gets_says, stale_says}
-use Rattle.ms_memory.proofs.Serving.{is_above}
+use Rattle.ms_record.specs.Floors.{none_above}
 use Rattle.ms_memory.proofs.link.MemoryLinkLinkFoldClosed.get.Goals as goal
 
 pub returns-then-generation-floor-clause-gets : goal.returns-then-generation-floor-clause-gets
@@ -11,11 +11,11 @@ returns-then-generation-floor-clause-gets g c =
     stale_says link c.show.new.pass c.show.new.self.log c.args.generation c.floor-floor.result c.if-generation-floor.true c.floor-floor.ensures log
 
 pub get-requires : goal.get-requires
-get-requires g c = is_above c.show.new.self.log c.floor-floor.result c.args.generation c.floor-floor.ensures c.if-generation-floor.false
+get-requires g c = none_above c.show.new.self.log c.floor-floor.result c.args.generation c.floor-floor.ensures c.if-generation-floor.false
 
 pub returns-clause-gets : goal.returns-clause-gets
 returns-clause-gets g c =
     let link : LinkView = record { board = g.J.Naming.board; service = c.args.self.now; faults = 0; lists = true; objects = true } in
     let log : log_known link c.show.new.pass ≡ c.show.new.self.log = search rules in
-    let above = is_above c.show.new.self.log c.floor-floor.result c.args.generation c.floor-floor.ensures c.if-generation-floor.false in
+    let above = none_above c.show.new.self.log c.floor-floor.result c.args.generation c.floor-floor.ensures c.if-generation-floor.false in
     gets_says link link c.show.new.pass c.show.new.self.log c.args.generation c.args.name.now c.in_ok-get.field-0 log above c.in_ok-get.ensures

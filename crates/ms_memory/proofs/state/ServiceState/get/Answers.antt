@@ -1,6 +1,7 @@
 use Rattle.std.proofs.Common.{◌≡◌, None, sym, subst, rules}
 use Rattle.ms_core.specs.Views.{log_in}
-use Rattle.ms_memory.proofs.Serving.{above_floor, none_put}
+use Rattle.ms_record.specs.Floors.{above_floor}
+use Rattle.ms_memory.proofs.Serving.{none_put}
 use Rattle.ms_memory.specs.Served.{Served}
 use Rattle.ms_memory.specs.Shelves.{text_at}
 use Rattle.ms_record.specs.Logs.{HasPut, NoDropAbove}

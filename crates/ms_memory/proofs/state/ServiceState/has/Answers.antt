@@ -1,7 +1,8 @@
 use Rattle.std.proofs.Common.{◌≡◌, sym, subst, rules}
 use Rattle.std.specs.Prelude.{Bool, IsTrue, ◌↔◌, is_some}
 use Rattle.ms_core.specs.Views.{log_in}
-use Rattle.ms_memory.proofs.Serving.{above_floor, has_put}
+use Rattle.ms_record.specs.Floors.{above_floor}
+use Rattle.ms_memory.proofs.Serving.{has_put}
 use Rattle.ms_memory.specs.Served.{Served}
 use Rattle.ms_memory.specs.Shelves.{text_at}
 use Rattle.ms_record.specs.Logs.{HasPut, NoDropAbove}
