@@ -16,6 +16,9 @@ use Rattle.ms_local.specs.States.{IsBase, IsTodo, IsState, base_text, todo_text,
 
 -- ---- steps
 
+abbrev given : {A : Type 0} → A → Option A
+given x = Some x
+
 -- a choice that gave a value gave it in one of its cases
 either_some : {A : Type 0} (b c : Bool) (o p : Option A) (y : A) → (if b then o else if c then p else None) ≡ Some y → ((b ≡ true) × (o ≡ Some y)) ⊎ ((c ≡ true) × (p ≡ Some y))
 either_some true c o p y e = inl (refl, e)
