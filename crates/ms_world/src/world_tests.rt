@@ -79,17 +79,26 @@ fn a_settling_bid_has_nothing_to_offer(rt: HostRuntime) -> Result<(), Fail> {
     let client = ClientId(0);
     let service = ServiceId(0);
     world.step(&Event::Start { client }).ok().ok_or("refused")?;
-    world.step(&Event::Bid {
-        client,
-        round: 1,
-        want: None,
-    }).ok().ok_or("refused")?;
-    world.step(&Event::Deliver { request: 0 }).ok().ok_or("refused")?;
-    world.step(&Event::Read {
-        client,
-        service,
-        upto: 1,
-    }).ok().ok_or("refused")?;
+    world
+        .step(&Event::Bid {
+            client,
+            round: 1,
+            want: None,
+        })
+        .ok()
+        .ok_or("refused")?;
+    world
+        .step(&Event::Deliver { request: 0 })
+        .ok()
+        .ok_or("refused")?;
+    world
+        .step(&Event::Read {
+            client,
+            service,
+            upto: 1,
+        })
+        .ok()
+        .ok_or("refused")?;
     assert_eq!(rt;
         refused(world.step(&Event::Offer { client })),
         Some((5, Why::Nothing))
@@ -98,6 +107,9 @@ fn a_settling_bid_has_nothing_to_offer(rt: HostRuntime) -> Result<(), Fail> {
         refused(world.step(&Event::DropBelow { service, floor: 2 })),
         Some((5, Why::Turned))
     );
-    world.step(&Event::DropBelow { service, floor: 1 }).ok().ok_or("refused")?;
+    world
+        .step(&Event::DropBelow { service, floor: 1 })
+        .ok()
+        .ok_or("refused")?;
     Ok(())
 }
