@@ -6,3 +6,5 @@ pub mod Rules
 pub mod Desks
 pub mod Calls
 pub mod Learning
+pub mod Running
+pub mod Truths

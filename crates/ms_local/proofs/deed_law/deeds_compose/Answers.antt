@@ -1,4 +1,4 @@
-use Rattle.ms_local.proofs.Running.{run_on, run_prefix}
+use Rattle.ms_local.specs.Running.{run_on, run_prefix}
 use Rattle.ms_local.proofs.deed_law.deeds_compose.Goals as goal
 
 pub returns-clause-both : goal.returns-clause-both

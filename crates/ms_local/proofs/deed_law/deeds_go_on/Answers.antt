@@ -1,4 +1,4 @@
-use Rattle.ms_local.proofs.Running.{did_nothing, did_on, did_may, did_bid}
+use Rattle.ms_local.specs.Running.{did_nothing, did_on, did_may, did_bid}
 use Rattle.ms_local.proofs.deed_law.deeds_go_on.Goals as goal
 
 pub returns-clause-nothing : goal.returns-clause-nothing

@@ -1,0 +1,85 @@
+-- What the deeds of a command say of the services, of the keeper and of the client's own list.
+use Rattle.std.specs.Prelude.{◌≡◌, ℕ, ◌+◌, ◌≤◌, true, false, List, [], ◌∷◌, ◌++◌, Some, Contains}
+use mathlib.Core.List.{IsPrefix}
+use Rattle.ms_base.specs.Counts.{Rose}
+use Rattle.ms_core.specs.Views.{View, log_in, owner_of_client, votes_told}
+use Rattle.ms_ken.specs.Lists.{list_at}
+use Rattle.ms_record.specs.declared.ballot.Ballot.{Ballot}
+use Rattle.ms_record.specs.declared.item.Item.{Item}
+use Rattle.ms_record.specs.declared.item.Item.TheVariants.{Offer}
+use Rattle.ms_record.specs.declared.record.Record.{Record}
+use Rattle.ms_record.specs.declared.record.Record.TheVariants.{Prepare}
+use Rattle.ms_record.specs.declared.sight.Sight.{Sight}
+use Rattle.ms_record.specs.Logs.{texts_in}
+use Rattle.ms_record.specs.Sights.{IsSight}
+use Rattle.ms_local.specs.declared.deed.Deed.{Deed}
+use Rattle.ms_local.specs.declared.deed.Deed.TheVariants.{KeepFailed, Kept as KeptDeed, StateKept, Appended, Declared, Looked, Listed}
+use Rattle.ms_local.specs.declared.deed.Message.TheVariants.{Vote}
+use Rattle.ms_local.specs.declared.kept.Kept.{Kept}
+use Rattle.ms_local.specs.Calls.{message_text}
+use Rattle.ms_local.specs.Desks.{DeskView, OnTold, faults_at}
+use Rattle.ms_local.specs.Keeping.{state_in}
+use Rattle.ms_local.specs.Outside.{WhereTold}
+
+-- ---- the state
+
+-- the state is as the keeper has it, but for a round that is greater; or for one that is less by the slack, 1 where a keeping
+-- failed or found no memory, else 0
+abbrev pub IsStateAt : ℕ → DeskView → Kept → Type 0
+IsStateAt slack desk kept = WhereTold desk.keep.told ((had : Kept) × (state_in desk.keep.texts ≡ Some had) × (kept ≡ record had { round = kept.round }) × (had.round ≤ kept.round + slack))
+
+-- ---- the own list
+
+-- the offers that these deeds declared, in order
+abbrev pub offers_of : List Deed → List Item
+offers_of [] = []
+offers_of (Declared offer ∷ deeds) = Offer offer ∷ offers_of deeds
+offers_of (deed ∷ deeds) = offers_of deeds
+
+-- the list of the desk's client is the one before, followed by the offers that the deeds since then declared
+pub record OwnHistory (old new : DeskView) : Type 0 where
+  pub deeds : List Deed
+  pub grows : new.deeds ≡ old.deeds ++ deeds
+  pub own : list_at new.pass.lists (owner_of_client old.client) ≡ list_at old.pass.lists (owner_of_client old.client) ++ offers_of deeds
+
+-- ---- deeds that are true
+
+-- what was appended with ok stands in its list, where a setting is told; a call without ok failed: its count of faults rose
+abbrev pub IsTrueDeed : DeskView → DeskView → Deed → Type 0
+IsTrueDeed old new (Appended service list message true) = OnTold old (Contains (texts_in list.0 (log_in new.pass.lists service.0)) (message_text message))
+IsTrueDeed old new (Appended service list message false) = Rose (faults_at old service.0) (faults_at new service.0)
+IsTrueDeed old new (Looked service sight false) = Rose (faults_at old service.0) (faults_at new service.0)
+IsTrueDeed old new (Listed service list from count false) = Rose (faults_at old service.0) (faults_at new service.0)
+IsTrueDeed old new (KeptDeed round false) = Rose old.keep.faults new.keep.faults
+IsTrueDeed old new (StateKept false) = Rose old.keep.faults new.keep.faults
+IsTrueDeed old new KeepFailed = Rose old.keep.faults new.keep.faults
+IsTrueDeed old new deed = Unit {0}
+
+-- the sight is what a list shows of the bid of the ballot at the position: no shorter than the low view has it, no longer than the
+-- high one
+pub record IsTrueSight (low high : View) (position : ℕ) (ballot : Ballot) (service : ℕ) (sight : Sight) : Type 0 where
+  pub list : List Record
+  pub low_begins : IsPrefix (votes_told low service) list
+  pub begins : IsPrefix list (votes_told high service)
+  pub seen : IsSight list position ballot sight
+
+abbrev pub ballot_at : ℕ → ℕ → Ballot
+ballot_at who round = record { round = round; client = record { 0 = who } }
+
+-- Of the deeds of a bid of this round at this position, and of the bids after it: each Prepare is for the position, and where a
+-- setting is told each look with ok is what a list shows of the bid. A bid begins with the keeping of its round, and has a
+-- position of its own.
+abbrev pub TrueLooks : DeskView → DeskView → ℕ → ℕ → List Deed → Type 0
+TrueLooks old new position round [] = Unit {0}
+TrueLooks old new position round (KeptDeed next ok ∷ deeds) = (own : ℕ) × TrueLooks old new own next deeds
+TrueLooks old new position round (Appended service list (Vote (Prepare k b)) ok ∷ deeds) = (k ≡ position) × TrueLooks old new position round deeds
+TrueLooks old new position round (Looked service sight true ∷ deeds) =
+    OnTold old (IsTrueSight old.pass.lists new.pass.lists position (ballot_at old.client round) service.0 sight) × TrueLooks old new position round deeds
+TrueLooks old new position round (deed ∷ deeds) = TrueLooks old new position round deeds
+
+-- the deeds since then are true
+pub record TrueDeeds (old new : DeskView) : Type 0 where
+  pub deeds : List Deed
+  pub grows : new.deeds ≡ old.deeds ++ deeds
+  pub each : (deed : Deed) → Contains deeds deed → IsTrueDeed old new deed
+  pub looks : (position round : ℕ) → TrueLooks old new position round deeds

@@ -1,0 +1,157 @@
+-- A bid goes on at a desk.
+use Rattle.std.proofs.Common.{◌≡◌, ◌≢◌, ℕ, ◌+◌, ◌<◌, ◌≤◌, Bool, true, false, List, [], ◌∷◌, ◌++◌, Option, Some, None, ◌⊎◌, inl, inr, refl, sym, ap, ◌∙◌, subst, length, max, append_assoc, arith, slice_get, slice_set, replicate}
+use Rattle.std.specs.Prelude.{Contains, IfSome}
+use Rattle.std.specs.Option.{option_map}
+use Rattle.std.proofs.lemmas.List.{append-nil}
+use Rattle.std.proofs.lemmas.List.Elements.{Contains-append_cases}
+use mathlib.Core.List.{IsPrefix}
+use Rattle.ms_base.specs.Counts.{Rose}
+use Rattle.ms_base.specs.declared.limits.TheConstants.{LAST_NUMBER}
+use Rattle.ms_base.specs.declared.names.ServiceId.{ServiceId}
+use Rattle.ms_bid.specs.declared.act.Act.{Act}
+use Rattle.ms_bid.specs.declared.act.Act.TheVariants.{Keep, Send, Look, Declare, End}
+use Rattle.ms_bid.specs.declared.act.Answer.{Answer}
+use Rattle.ms_bid.specs.declared.act.Answer.TheVariants.{Kept as KeptAnswer, Sent, Seen, Declared, Failed}
+use Rattle.ms_bid.specs.declared.bid.Bid.{Bid}
+use Rattle.ms_bid.specs.Bids.{IsBid, IsPending, fits, message_of, noted, with_sight}
+use Rattle.ms_bid.specs.Ends.{flag_at}
+use Rattle.ms_core.specs.Views.{View, log_in, offers_told, owner_of_client, votes_told}
+use Rattle.ms_ken.specs.Known.{Known}
+use Rattle.ms_ken.specs.Lists.{list_at, Begins, with_item, with_told}
+use Rattle.ms_ken.specs.Rows.{begins_self, item_here}
+use Rattle.ms_link.specs.Links.{Learns as PassLearns}
+use Rattle.ms_record.specs.declared.ballot.Ballot.{Ballot}
+use Rattle.ms_record.specs.declared.entry.Entry.{Entry}
+use Rattle.ms_record.specs.declared.item.Item.{Item}
+use Rattle.ms_record.specs.declared.item.Item.TheVariants.{Offer}
+use Rattle.ms_record.specs.declared.record.Record.{Record}
+use Rattle.ms_record.specs.declared.record.Record.TheVariants.{Prepare, Accept}
+use Rattle.ms_record.specs.declared.setting.Setting.{Setting}
+use Rattle.ms_record.specs.declared.sight.Sight.{Sight}
+use Rattle.ms_record.specs.Items.{offers_of_items}
+use Rattle.ms_record.specs.Records.{IsBallot, IsRecord, record_text}
+use Rattle.ms_record.specs.Reading.{record_at}
+use Rattle.ms_record.specs.Votes.{ballot_of}
+use Rattle.ms_local.specs.declared.deed.Deed.{Deed}
+use Rattle.ms_local.specs.declared.deed.Deed.TheVariants.{Kept as KeptDeed, Appended, Looked, Declared as DeclaredDeed}
+use Rattle.ms_local.specs.declared.deed.Message.TheVariants.{Vote as VoteText}
+use Rattle.ms_local.specs.declared.kept.Kept.{Kept}
+use Rattle.ms_local.specs.declared.kept.Key.TheVariants.{State}
+use Rattle.ms_local.specs.Desks.{AreWithin, DeskView, HasKeptRound, IsDesk, KnowsTold, MayKeepRound, round_of}
+use Rattle.ms_local.specs.Keeping.{HasRanges, HasState, MayHaveState, state_in, state_of}
+use Rattle.ms_local.specs.Outside.{KeeperView, WhereTold}
+use Rattle.ms_local.specs.Rules.{shown_round}
+use Rattle.ms_local.specs.States.{kept_at}
+use Rattle.ms_propose.specs.declared.acts.Aim.{Aim}
+use Rattle.ms_propose.specs.Acts.{DoesAct, Halts, Leaves, MayDo, MayHaveKept, deed_of, kept_round, no_sight, vote_list, with_round}
+use Rattle.ms_propose.specs.Bidding.{IsBidOf}
+use Rattle.ms_propose.specs.Composing.{bids_on, bids_self, deed_wider, sight_on}
+use Rattle.ms_propose.specs.Going.{DeskBids}
+use Rattle.ms_local.specs.Desks.{OnTold, faults_at}
+use Rattle.ms_replay.specs.Looks.{IsInRange}
+use Rattle.ms_propose.specs.TrueBids.{HasEntries, IsNewest, IsTrueBid}
+use Rattle.ms_local.specs.Truths.{IsStateAt, IsTrueDeed, IsTrueSight, OwnHistory, TrueDeeds, TrueLooks, ballot_at, offers_of}
+use Rattle.ms_propose.proofs.Growing.{learnt, sent_there, true_declared, true_failed, true_seen, true_sent}
+
+-- ---- the state
+
+-- the round that the kept text says, where it spells a state
+round_is : (text : Option (List ℕ)) (had : Kept) → state_of text ≡ Some had → round_of text ≡ Some had.round
+round_is None had e = absurd cc
+round_is (Some text) had e = ap (option_map (λ (kept : Kept). kept.round)) e
+
+pub may_keep : (desk : DeskView) (kept : Kept) (round : ℕ) → kept.round ≤ round → IsStateAt 0 desk kept → MayKeepRound desk round
+may_keep desk kept round low h told = let s = h told in (s.0.round, round_is (desk.keep.texts State) s.0 s.1, omega (arith, low, s.3))
+
+pub round_kept : (desk : DeskView) (kept : Kept) → WhereTold desk.keep.told (state_in desk.keep.texts ≡ Some kept) → HasKeptRound desk kept.round
+round_kept desk kept h told = (kept.round, round_is (desk.keep.texts State) kept (h told), omega arith)
+
+-- no offer of the client has a round above the kept one
+pub newest_told : (desk : DeskView) (setting : Setting) (kept : Kept) (ballot : Ballot) → IsDesk desk → KnowsTold desk setting → IsStateAt 0 desk kept → ballot.client.0 ≡ desk.client → kept.round < ballot.round → IsNewest desk.pass.lists ballot
+newest_told desk setting kept ballot h told state mine above k b e is =
+    let t = h.telling setting told in
+    let s = state t.texts in
+    let bound : AreWithin (offers_told desk.pass.lists desk.client) s.0.round = subst (λ (o : Option ℕ). IfSome o (AreWithin (offers_told desk.pass.lists desk.client))) (round_is (desk.keep.texts State) s.0 s.1) t.rounds in
+    let low = bound (Accept k b e) (subst (λ (who : ℕ). Contains (offers_told desk.pass.lists who) (Accept k b e)) mine is) in
+    omega (arith, low, s.3, above)
+
+same_keep : (old new : DeskView) → new.keep ≡ old.keep → (P : KeeperView → Type 0) → P old.keep → P new.keep
+same_keep old new e P h = subst P (sym e) h
+
+-- an answer does not lower the kept round, but where the round is kept
+pub kept_rises : (round : ℕ) (act : Act) (answer : Answer) → ((r : ℕ) → act ≡ Keep r → ⊥) → round ≤ kept_round round act answer
+kept_rises round (Keep r) answer other = absurd (other r refl)
+kept_rises round (Look s) (Seen sight) other = omega arith
+kept_rises round (Look s) KeptAnswer other = omega arith
+kept_rises round (Look s) Sent other = omega arith
+kept_rises round (Look s) Declared other = omega arith
+kept_rises round (Look s) Failed other = omega arith
+kept_rises round (Send s m) answer other = omega arith
+kept_rises round (Declare o) answer other = omega arith
+kept_rises round (End o) answer other = omega arith
+
+-- acts but the keeping leave the keeper as it was
+pub keeper_stays : (aim : Aim) (act : Act) (answer : Answer) (old new : DeskView) (kept : Kept) → ((r : ℕ) → act ≡ Keep r → ⊥) → Leaves aim act answer old new kept → new.keep ≡ old.keep
+keeper_stays aim (Keep r) answer old new kept other l = absurd (other r refl)
+keeper_stays aim (Send s m) Sent old new kept other l = l.1
+keeper_stays aim (Send s m) Failed old new kept other l = l.1
+keeper_stays aim (Look s) (Seen x) old new kept other l = l.1
+keeper_stays aim (Look s) Failed old new kept other l = l.1
+keeper_stays aim (Declare o) Declared old new kept other l = l.1
+keeper_stays aim act answer old new kept other l = absurd l
+
+state_higher : (slack : ℕ) (old new : DeskView) (before : Kept) (round : ℕ) → before.round ≤ round → new.keep ≡ old.keep → IsStateAt slack old before → IsStateAt slack new (with_round before round)
+state_higher slack old new before round up same h told =
+    let s = h (ap (λ (k : KeeperView). k.told) (sym same) ∙ told) in
+    (s.0, ap (λ (k : KeeperView). state_in k.texts) same ∙ s.1, ap (λ (k : Kept). with_round k round) s.2, omega (arith, s.3, up))
+
+pub state_on : (aim : Aim) (act : Act) (answer : Answer) (old new : DeskView) (before after : Kept) → ((r : ℕ) → act ≡ Keep r → ⊥) → after ≡ with_round before (kept_round before.round act answer) → Leaves aim act answer old new after
+    → IsStateAt 0 old before → IsStateAt 0 new after
+state_on aim act answer old new before after other is l h =
+    subst (λ (k : Kept). IsStateAt 0 new k) (sym is) (state_higher 0 old new before (kept_round before.round act answer) (kept_rises before.round act answer other) (keeper_stays aim act answer old new after other l) h)
+
+-- a keeping that failed or found no memory
+pub state_failed : (old new : DeskView) (kept : Kept) → new.keep.told ≡ old.keep.told → WhereTold old.keep.told (MayHaveState (with_round kept (kept.round + 1)) old.keep.texts new.keep.texts) → IsStateAt 0 old kept → IsStateAt 1 new kept
+state_failed old new kept same may h told = by (may (sym same ∙ told)) where
+  by : MayHaveState (with_round kept (kept.round + 1)) old.keep.texts new.keep.texts → (had : Kept) × (state_in new.keep.texts ≡ Some had) × (kept ≡ record had { round = kept.round }) × (had.round ≤ kept.round + 1)
+  by (inl stays) = let s = h (sym same ∙ told) in (s.0, ap state_in stays ∙ s.1, s.2, omega (arith, s.3))
+  by (inr is) = (with_round kept (kept.round + 1), is.state, refl, omega arith)
+
+pub state_wider : (desk : DeskView) (kept : Kept) → IsStateAt 0 desk kept → IsStateAt 1 desk kept
+state_wider desk kept h told = let s = h told in (s.0, s.1, s.2, omega (arith, s.3))
+
+state_slack : (old new : DeskView) (kept : Kept) → new.keep ≡ old.keep → IsStateAt 0 old kept → IsStateAt 1 new kept
+state_slack old new kept same h = state_higher 1 old new kept kept.round (omega arith) same (state_wider old kept h)
+
+pub state_halts : (act : Act) (old new : DeskView) (kept : Kept) → ((r : ℕ) → act ≡ Keep r → r ≡ kept.round + 1) → new.keep.told ≡ old.keep.told → MayHaveKept act old new kept → IsStateAt 0 old kept → IsStateAt 1 new kept
+state_halts (Keep r) old new kept next same may h = state_failed old new kept same (subst (λ (k : ℕ). WhereTold old.keep.told (MayHaveState (with_round kept k) old.keep.texts new.keep.texts)) (next r refl) may) h
+state_halts (Send s m) old new kept next same may h = state_slack old new kept may h
+state_halts (Look s) old new kept next same may h = state_slack old new kept may h
+state_halts (Declare o) old new kept next same may h = state_slack old new kept may h
+state_halts (End o) old new kept next same may h = state_slack old new kept may h
+
+pub kept_stays : (round : ℕ) (old new : DeskView) → new.keep ≡ old.keep → HasKeptRound old round → HasKeptRound new round
+kept_stays round old new same h = subst (λ (k : KeeperView). WhereTold k.told ((kept : ℕ) × (round_of (k.texts State) ≡ Some kept) × (round ≤ kept))) (sym same) h
+
+-- ---- ranges
+
+top_within : (top : Option Ballot) → IfSome top IsBallot → shown_round top ≤ LAST_NUMBER
+top_within None h = omega arith
+top_within (Some b) h = h.last_round
+
+round_within : (aim : Aim) (act : Act) (answer : Answer) (old new : DeskView) (kept : Kept) (round : ℕ) → ((r : ℕ) → act ≡ Keep r → ⊥) → Leaves aim act answer old new kept → round ≤ LAST_NUMBER → kept_round round act answer ≤ LAST_NUMBER
+round_within aim (Keep r) answer old new kept round other l h = absurd (other r refl)
+round_within aim (Look s) (Seen x) old new kept round other l h = omega (arith, h, top_within x.top l.2.top)
+round_within aim (Look s) Failed old new kept round other l h = h
+round_within aim (Send s m) Sent old new kept round other l h = h
+round_within aim (Send s m) Failed old new kept round other l h = h
+round_within aim (Declare o) Declared old new kept round other l h = h
+round_within aim act answer old new kept round other l h = absurd l
+
+pub ranges_round : (kept : Kept) (round : ℕ) → round ≤ LAST_NUMBER → HasRanges kept → HasRanges (with_round kept round)
+ranges_round kept round low h = record { round = low; number = h.number; position = h.position; target = h.target }
+
+pub ranges_on : (aim : Aim) (act : Act) (answer : Answer) (old new : DeskView) (before after : Kept) → ((r : ℕ) → act ≡ Keep r → ⊥) → after ≡ with_round before (kept_round before.round act answer) → Leaves aim act answer old new after
+    → HasRanges before → HasRanges after
+ranges_on aim act answer old new before after other is l h =
+    subst HasRanges (sym is) (ranges_round before (kept_round before.round act answer) (round_within aim act answer old new after before.round other l h.round) h)

@@ -1,0 +1,10 @@
+pub mod Lengths
+pub mod Lists
+pub mod Offering
+pub mod Mirroring
+pub mod Truths
+pub mod Growing
+pub mod Going
+pub mod Stepping
+pub mod Acting
+pub mod OneBid

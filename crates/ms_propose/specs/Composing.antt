@@ -1,0 +1,245 @@
+-- How what bids leave of a desk goes together.
+use Rattle.std.proofs.Common.{◌≡◌, ◌≢◌, ℕ, zero, suc, ◌⊎◌, inl, inr, ◌+◌, ◌≤◌, true, false, Bool, List, [], ◌∷◌, ◌++◌, length, Option, Some, None, refl, sym, ap, ◌∙◌, subst, append_assoc, arith, slice_get, slice_index_or}
+use Rattle.std.specs.Prelude.{Contains}
+use Rattle.std.specs.Option.{option_map_or}
+use Rattle.std.proofs.lemmas.List.{append-nil}
+use Rattle.std.proofs.lemmas.List.Elements.{Contains-append_cases, Contains-append_left}
+use mathlib.Core.List.{IsPrefix}
+use Rattle.ms_base.specs.Counts.{Rose}
+use Rattle.ms_core.specs.Closing.{logs_grow}
+use Rattle.ms_core.specs.Views.{View, configuration, log_in, owner_of_client, votes_told}
+use Rattle.ms_ken.specs.Lists.{list_at, Begins}
+use Rattle.ms_ken.specs.Prefixes.{prefix_trans}
+use Rattle.ms_ken.specs.Rows.{begins_self, begins_trans}
+use Rattle.ms_link.specs.Composing.{rose_before, rose_on, stays_on, stays_self}
+use Rattle.ms_link.specs.Links.{LinkView, Stays}
+use Rattle.ms_record.specs.declared.ballot.Ballot.{Ballot}
+use Rattle.ms_record.specs.declared.item.Item.{Item}
+use Rattle.ms_record.specs.declared.item.Item.TheVariants.{Offer, Told}
+use Rattle.ms_record.specs.declared.log.LogEvent.{LogEvent}
+use Rattle.ms_record.specs.declared.record.Record.TheVariants.{Prepare, Accept}
+use Rattle.ms_record.specs.declared.setting.Setting.{Setting}
+use Rattle.ms_record.specs.declared.sight.Sight.{Sight}
+use Rattle.ms_record.specs.Growing.{texts_append, votes_grow}
+use Rattle.ms_record.specs.Logs.{texts_in}
+use Rattle.ms_local.specs.declared.deed.Deed.{Deed}
+use Rattle.ms_local.specs.declared.deed.Deed.TheVariants.{KeepFailed, Kept as KeptDeed, StateKept, Appended, Declared, Looked, Listed}
+use Rattle.ms_local.specs.declared.deed.Message.TheVariants.{Vote, Ref}
+use Rattle.ms_local.specs.Desks.{DeskView, IsDesk, KnowsTold, LanesStay, LinksStay}
+use Rattle.ms_local.specs.Outside.{KeeperView, WhereTold}
+use Rattle.ms_propose.specs.Going.{DeskBids, KeepsObjects}
+use Rattle.ms_local.specs.Desks.{first_link, faults_at}
+use Rattle.ms_local.specs.Truths.{IsTrueDeed, IsTrueSight, OwnHistory, TrueDeeds, TrueLooks, ballot_at, offers_of}
+use Rattle.ms_local.specs.Calls.{message_text}
+
+-- ---- links
+
+links_self : (links : List LinkView) → LinksStay links links
+links_self links = record { all = refl; each = λ place link at. (link, at, stays_self link) }
+
+pub lanes_self : (lanes : List (List LinkView)) → LanesStay lanes lanes
+lanes_self lanes = record { all = refl; each = λ place links at. (links, at, links_self links) }
+
+links_on : (a b c : List LinkView) → LinksStay a b → LinksStay b c → LinksStay a c
+links_on a b c h k = record {
+  all = k.all ∙ h.all;
+  each = λ place link at.
+      let x = k.each place link at in
+      let y = h.each place x.0 x.1 in
+      (y.0, y.1, stays_on y.0 x.0 link y.2 x.2);
+}
+
+pub lanes_on : (a b c : List (List LinkView)) → LanesStay a b → LanesStay b c → LanesStay a c
+lanes_on a b c h k = record {
+  all = k.all ∙ h.all;
+  each = λ place links at.
+      let x = k.each place links at in
+      let y = h.each place x.0 x.1 in
+      (y.0, y.1, links_on y.0 x.0 links y.2 x.2);
+}
+
+-- ---- the desk
+
+pub keeps_self : (keep : KeeperView) → KeepsObjects keep keep
+keeps_self keep = record { told = refl; objects = λ told name. refl; later = omega arith }
+
+pub keeps_on : (a b c : KeeperView) → KeepsObjects a b → KeepsObjects b c → KeepsObjects a c
+keeps_on a b c h k = record {
+  told = k.told ∙ h.told;
+  objects = λ told name. k.objects (h.told ∙ told) name ∙ h.objects told name;
+  later = omega (arith, h.later, k.later);
+}
+
+pub bids_self : (desk : DeskView) → DeskBids desk desk
+bids_self desk = record {
+  same = refl;
+  board = refl;
+  word = refl;
+  more = begins_self desk.pass.lists;
+  told = λ setting told. told;
+  lanes = lanes_self desk.lanes;
+  keep = keeps_self desk.keep;
+}
+
+same_on : (a b c : DeskView) → b ≡ record a { pass = b.pass; keep = b.keep; lanes = b.lanes; deeds = b.deeds } → c ≡ record b { pass = c.pass; keep = c.keep; lanes = c.lanes; deeds = c.deeds }
+    → c ≡ record a { pass = c.pass; keep = c.keep; lanes = c.lanes; deeds = c.deeds }
+same_on a b c h k = k ∙ ap (λ (d : DeskView). let e : DeskView = record d { pass = c.pass; keep = c.keep; lanes = c.lanes; deeds = c.deeds } in e) h
+
+pub bids_on : (a b c : DeskView) → DeskBids a b → DeskBids b c → DeskBids a c
+bids_on a b c h k = record {
+  same = same_on a b c h.same k.same;
+  board = k.board ∙ h.board;
+  word = k.word ∙ h.word;
+  more = begins_trans a.pass.lists b.pass.lists c.pass.lists h.more k.more;
+  told = λ setting told. k.told setting (h.told setting told);
+  lanes = lanes_on a.lanes b.lanes c.lanes h.lanes k.lanes;
+  keep = keeps_on a.keep b.keep c.keep h.keep k.keep;
+}
+
+pub bids_client : (a b : DeskView) → DeskBids a b → b.client ≡ a.client
+bids_client a b h = ap (λ (d : DeskView). d.client) h.same
+
+pub bids_services : (a b : DeskView) → DeskBids a b → b.services ≡ a.services
+bids_services a b h = ap (λ (d : DeskView). d.services) h.same
+
+-- what is told was told before, where anything was known
+alone : (xs : List Item) (x : Item) → xs ≢ [] → IsPrefix xs (x ∷ []) → xs ≡ x ∷ []
+alone [] x some p = absurd (some refl)
+alone (y ∷ []) x some p = ap (λ z. z ∷ []) (let q : y ≡ x = cc (p.1) in q)
+alone (y ∷ z ∷ zs) x some p = absurd (cc (p.1))
+
+pub told_back : (a b : DeskView) (setting : Setting) → IsDesk a → DeskBids a b → KnowsTold b setting → KnowsTold a setting
+told_back a b setting desk h told =
+    alone (list_at a.pass.lists configuration) (Told setting) desk.knows (subst (λ (l : List Item). IsPrefix (list_at a.pass.lists configuration) l) told (h.more configuration))
+
+-- ---- counts
+
+link_faults : (a b : Option LinkView) → ((link : LinkView) → b ≡ Some link → (before : LinkView) × (a ≡ Some before) × Stays before link) → ((link : LinkView) → a ≡ Some link → b ≢ None)
+    → option_map_or (λ (link : LinkView). link.faults) a 0 ≤ option_map_or (λ (link : LinkView). link.faults) b 0
+link_faults None b each some = omega arith
+link_faults (Some x) None each some = absurd (some x refl refl)
+link_faults (Some x) (Some y) each some =
+    let h = each y refl in
+    let same : x ≡ h.0 = (let q : Some x ≡ Some h.0 = h.1 in cc) in
+    omega (arith, h.2.later, ap (λ (l : LinkView). l.faults) same)
+
+got_at : {X : Type 0} (xs : List X) (k : ℕ) (x : X) → slice_get xs k ≡ Some x → (d : X) → slice_index_or xs k d ≡ x
+got_at [] k x e d = absurd cc
+got_at (y ∷ xs) zero x e d = (let q : y ≡ x = cc in q)
+got_at (y ∷ xs) (suc k) x e d = got_at xs k x e d
+
+has_at : {X : Type 0} (xs ys : List X) (k : ℕ) (x : X) → length ys ≡ length xs → slice_get xs k ≡ Some x → slice_get ys k ≢ None
+has_at [] ys k x same e n = absurd cc
+has_at (z ∷ xs) [] k x same e n = absurd (omega (arith, same))
+has_at (z ∷ xs) (y ∷ ys) zero x same e n = absurd cc
+has_at (z ∷ xs) (y ∷ ys) (suc k) x same e n = has_at xs ys k x (omega (arith, same)) e n
+
+first_links : (a b : List (List LinkView)) → LanesStay a b → LinksStay (slice_index_or a 0 []) (slice_index_or b 0 [])
+first_links [] [] h = links_self []
+first_links [] (y ∷ b) h = absurd (omega (arith, h.all))
+first_links (x ∷ a) [] h = absurd (omega (arith, h.all))
+first_links (x ∷ a) (y ∷ b) h =
+    let e = h.each 0 y refl in
+    let same : e.0 ≡ x = (let q : Some x ≡ Some e.0 = e.1 in cc) in
+    subst (λ (l : List LinkView). LinksStay l y) same e.2
+
+pub faults_later : (a b : DeskView) (s : ℕ) → LanesStay a.lanes b.lanes → faults_at a s ≤ faults_at b s
+faults_later a b s h =
+    let links = first_links a.lanes b.lanes h in
+    link_faults (first_link a s) (first_link b s) (λ link at. links.each s link at) (λ link at. has_at (slice_index_or a.lanes 0 []) (slice_index_or b.lanes 0 []) s link links.all at)
+
+-- ---- what was told stays told
+
+pub votes_begin : (low high : View) → Begins low high → (s : ℕ) → IsPrefix (votes_told low s) (votes_told high s)
+votes_begin low high more s = votes_grow (log_in low) (log_in high) (logs_grow low high more) s
+
+pub text_stays : (low high : View) → Begins low high → (s list : ℕ) (text : List ℕ) → Contains (texts_in list (log_in low s)) text → Contains (texts_in list (log_in high s)) text
+text_stays low high more s list text h =
+    let p = logs_grow low high more s in
+    subst (λ (l : List LogEvent). Contains (texts_in list l) text) p.1
+    (subst (λ (l : List (List ℕ)). Contains l text) (sym (texts_append list (log_in low s) p.0)) (Contains-append_left (texts_in list (log_in low s)) (texts_in list p.0) text h))
+
+pub sight_on : (low lower high higher : View) → Begins lower low → Begins high higher → (k : ℕ) (b : Ballot) (s : ℕ) (x : Sight) → IsTrueSight low high k b s x → IsTrueSight lower higher k b s x
+sight_on low lower high higher below above k b s x h = record {
+  list = h.list;
+  low_begins = prefix_trans (votes_told lower s) (votes_told low s) h.list (votes_begin lower low below s) h.low_begins;
+  begins = prefix_trans h.list (votes_told high s) (votes_told higher s) h.begins (votes_begin high higher above s);
+  seen = h.seen;
+}
+
+-- ---- deeds
+
+-- a deed that is true between two moments is true between an earlier and a later one
+pub deed_wider : (a b c d : DeskView) → DeskBids a b → DeskBids c d → (deed : Deed) → IsTrueDeed b c deed → IsTrueDeed a d deed
+deed_wider a b c d h k (Appended service list message true) t = λ setting told.
+    text_stays c.pass.lists d.pass.lists k.more service.0 list.0 (message_text message) (t setting (h.told setting told))
+deed_wider a b c d h k (Appended service list message false) t =
+    rose_before (faults_at a service.0) (faults_at b service.0) (faults_at d service.0) (faults_later a b service.0 h.lanes)
+    (rose_on (faults_at b service.0) (faults_at c service.0) (faults_at d service.0) t (faults_later c d service.0 k.lanes))
+deed_wider a b c d h k (Looked service sight false) t =
+    rose_before (faults_at a service.0) (faults_at b service.0) (faults_at d service.0) (faults_later a b service.0 h.lanes)
+    (rose_on (faults_at b service.0) (faults_at c service.0) (faults_at d service.0) t (faults_later c d service.0 k.lanes))
+deed_wider a b c d h k (Listed service list from count false) t =
+    rose_before (faults_at a service.0) (faults_at b service.0) (faults_at d service.0) (faults_later a b service.0 h.lanes)
+    (rose_on (faults_at b service.0) (faults_at c service.0) (faults_at d service.0) t (faults_later c d service.0 k.lanes))
+deed_wider a b c d h k (KeptDeed round false) t = rose_before a.keep.faults b.keep.faults d.keep.faults h.keep.later (rose_on b.keep.faults c.keep.faults d.keep.faults t k.keep.later)
+deed_wider a b c d h k (StateKept false) t = rose_before a.keep.faults b.keep.faults d.keep.faults h.keep.later (rose_on b.keep.faults c.keep.faults d.keep.faults t k.keep.later)
+deed_wider a b c d h k KeepFailed t = rose_before a.keep.faults b.keep.faults d.keep.faults h.keep.later (rose_on b.keep.faults c.keep.faults d.keep.faults t k.keep.later)
+deed_wider a b c d h k deed t = tt
+
+pub looks_wider : (a b c d : DeskView) → DeskBids a b → DeskBids c d → (position round : ℕ) (deeds : List Deed) → TrueLooks b c position round deeds → TrueLooks a d position round deeds
+looks_wider a b c d h k position round [] t = tt
+looks_wider a b c d h k position round (KeptDeed next ok ∷ deeds) t = (t.0, looks_wider a b c d h k t.0 next deeds t.1)
+looks_wider a b c d h k position round (Appended service list (Vote (Prepare p x)) ok ∷ deeds) t = (t.0, looks_wider a b c d h k position round deeds t.1)
+looks_wider a b c d h k position round (Looked service sight true ∷ deeds) t = (
+  λ setting told.
+      sight_on b.pass.lists a.pass.lists c.pass.lists d.pass.lists h.more k.more position (ballot_at a.client round) service.0 sight
+      (subst (λ (who : ℕ). IsTrueSight b.pass.lists c.pass.lists position (ballot_at who round) service.0 sight) (bids_client a b h) (t.0 setting (h.told setting told))),
+  looks_wider a b c d h k position round deeds t.1,
+)
+looks_wider a b c d h k position round (deed ∷ deeds) t = looks_wider a b c d h k position round deeds t
+
+looks_append : (a d : DeskView) (position round : ℕ) (deeds more : List Deed) → TrueLooks a d position round deeds → ((k r : ℕ) → TrueLooks a d k r more) → TrueLooks a d position round (deeds ++ more)
+looks_append a d position round [] more t u = u position round
+looks_append a d position round (KeptDeed next ok ∷ deeds) more t u = (t.0, looks_append a d t.0 next deeds more t.1 u)
+looks_append a d position round (Appended service list (Vote (Prepare p x)) ok ∷ deeds) more t u = (t.0, looks_append a d position round deeds more t.1 u)
+looks_append a d position round (Looked service sight true ∷ deeds) more t u = (t.0, looks_append a d position round deeds more t.1 u)
+looks_append a d position round (deed ∷ deeds) more t u = looks_append a d position round deeds more t u
+
+pub truths_self : (desk now : DeskView) → now.deeds ≡ desk.deeds → TrueDeeds desk now
+truths_self desk now same = record { deeds = []; grows = same ∙ sym (append-nil desk.deeds); each = λ deed h. absurd (omega (arith, h.1)); looks = λ k r. tt }
+
+pub truths_on : (a b c : DeskView) → DeskBids a b → DeskBids b c → TrueDeeds a b → TrueDeeds b c → TrueDeeds a c
+truths_on a b c h k t u = record {
+  deeds = t.deeds ++ u.deeds;
+  grows = u.grows ∙ (ap (λ (xs : List Deed). xs ++ u.deeds) t.grows ∙ append_assoc a.deeds t.deeds u.deeds);
+  each = λ deed is.
+      elim (Contains-append_cases t.deeds u.deeds deed is) [
+        | inl x ↦ deed_wider a a b c (bids_self a) k deed (t.each deed x)
+        | inr y ↦ deed_wider a b c c h (bids_self c) deed (u.each deed y)
+      ];
+  looks = λ position round.
+      looks_append a c position round t.deeds u.deeds (looks_wider a a b c (bids_self a) k position round t.deeds (t.looks position round))
+      (λ p r. looks_wider a b c c h (bids_self c) p r u.deeds (u.looks p r));
+}
+
+-- ---- the own list
+
+pub offers_more : (xs ys : List Deed) → offers_of (xs ++ ys) ≡ offers_of xs ++ offers_of ys
+offers_more [] ys = refl
+offers_more (Declared offer ∷ xs) ys = ap (λ (l : List Item). Offer offer ∷ l) (offers_more xs ys)
+offers_more (d ∷ xs) ys = offers_more xs ys
+
+pub history_self : (desk now : DeskView) → now.deeds ≡ desk.deeds → list_at now.pass.lists (owner_of_client desk.client) ≡ list_at desk.pass.lists (owner_of_client desk.client) → OwnHistory desk now
+history_self desk now same own = record { deeds = []; grows = same ∙ sym (append-nil desk.deeds); own = own ∙ sym (append-nil (list_at desk.pass.lists (owner_of_client desk.client))) }
+
+pub history_on : (a b c : DeskView) → b.client ≡ a.client → OwnHistory a b → OwnHistory b c → OwnHistory a c
+history_on a b c client h k =
+    let own : list_at c.pass.lists (owner_of_client a.client) ≡ list_at b.pass.lists (owner_of_client a.client) ++ offers_of k.deeds =
+    subst (λ (who : ℕ). list_at c.pass.lists (owner_of_client who) ≡ list_at b.pass.lists (owner_of_client who) ++ offers_of k.deeds) client k.own in
+    record {
+      deeds = h.deeds ++ k.deeds;
+      grows = k.grows ∙ (ap (λ (xs : List Deed). xs ++ k.deeds) h.grows ∙ append_assoc a.deeds h.deeds k.deeds);
+      own = own ∙ (ap (λ (xs : List Item). xs ++ offers_of k.deeds) h.own ∙ (append_assoc (list_at a.pass.lists (owner_of_client a.client)) (offers_of h.deeds) (offers_of k.deeds)
+          ∙ ap (λ (xs : List Item). list_at a.pass.lists (owner_of_client a.client) ++ xs) (sym (offers_more h.deeds k.deeds))));
+    }

@@ -1,0 +1,5 @@
+//! Bids at a desk: proposing an entry, and settling what others left.
+#![tactic(auto)]
+
+mod acts;
+mod bids;
