@@ -1,0 +1,4 @@
+mod Places
+mod Lining
+mod Hearing
+mod Keeping

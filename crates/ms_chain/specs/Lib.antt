@@ -1,0 +1,4 @@
+pub mod Lines
+pub mod LineInside
+pub mod Heard
+pub mod HeardInside

@@ -1,0 +1,5 @@
+//! What a client keeps of the chain: its members, and what it has read of the vote lists.
+#![tactic(auto)]
+
+mod heard;
+mod line;
