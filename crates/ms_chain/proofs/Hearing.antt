@@ -163,6 +163,7 @@ seen_on votes more s text (Some j) seen h v g = record {
   where
     greater : (m n : ℕ) → (max m n ≡ m) ⊎ (max m n ≡ n)
     greater m n = grind arith
+
     by : (top : ℕ) → (top ≡ seen) ⊎ (top ≡ j) → (top ≡ 0) ⊎ ((service place : ℕ) × (b : Ballot) × (e : Entry) × IsTaken (more service) place top b e)
     by top (inl same) =
         elim g.stands [
@@ -170,5 +171,10 @@ seen_on votes more s text (Some j) seen h v g = record {
           | inr w ↦ inr (w.0, w.1, w.2, w.3, subst (λ (k : ℕ). IsTaken (more w.0) w.1 k w.2 w.3) (sym same) (taken_on votes more s text h w.0 w.1 seen w.2 w.3 w.4))
         ]
     by top (inr same) =
-        inr (s, length (votes s), v.0, v.1,
-        subst (λ (k : ℕ). IsTaken (more s) (length (votes s)) k v.0 v.1) (sym same) (subst (λ (xs : List Record). IsTaken xs (length (votes s)) j v.0 v.1) (sym h.here) v.2))
+        inr (
+          s,
+          length (votes s),
+          v.0,
+          v.1,
+          subst (λ (k : ℕ). IsTaken (more s) (length (votes s)) k v.0 v.1) (sym same) (subst (λ (xs : List Record). IsTaken xs (length (votes s)) j v.0 v.1) (sym h.here) v.2),
+        )

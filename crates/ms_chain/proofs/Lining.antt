@@ -176,6 +176,7 @@ lined_first setting last plan h some named =
     at : plan ≡ genesis_plan setting → (n place : ℕ) → slice_get (0 ∷ []) n ≡ Some place → slice_get (plan ∷ []) place ≡ Some (plan_in (genesis_plan setting) (take n []))
     at first zero place got = ap (slice_get (plan ∷ [])) (sym (some_same 0 place got)) ∙ ap (λ (p : PlanView). Some p) first
     at first (suc n) place got = absurd cc
+
     was : plan ≡ genesis_plan setting → (place : ℕ) (p : PlanView) → slice_get (plan ∷ []) place ≡ Some p → (n : ℕ) × (n ≤ 0) × (p ≡ plan_in (genesis_plan setting) (take n []))
     was first zero p got = (0, omega arith, sym (some_same plan p got) ∙ first)
     was first (suc place) p got = absurd cc

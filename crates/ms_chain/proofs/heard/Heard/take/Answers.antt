@@ -69,7 +69,7 @@ invariant_of-self-2 c =
     let v : IsVotedAt (lists_of (view_of h) s) (record_at c.args.text) voted =
     subst (λ (t : List ℕ). IsVotedAt (lists_of (view_of h) s) (record_at t) voted) c.as_slice.ensures (c.in_ok-voted.ensures.voted (lists_of (view_of h)) c.self.invariant.tally) in
     let keeps = keeps_more (view_of h) h.tally c.add.new.self h.seen s c.args.text voted (record { services = c.self.invariant.services; tally = c.self.invariant.tally; seen = c.self.invariant.seen })
-        (subst (λ (n : ℕ). s < n) (sym many) lt) c.add.ensures.services tallies v in
+    (subst (λ (n : ℕ). s < n) (sym many) lt) c.add.ensures.services tallies v in
     let top : c.max-self-inside.result ≡ max h.seen (unwrap_or voted 0) = c.max-self-inside.ensures ∙ ap (max h.seen) c.unwrap_or.ensures in
     record {
       services = keeps.services ∙ ap (λ (v : List (List (List ℕ))). length v) (sym more);

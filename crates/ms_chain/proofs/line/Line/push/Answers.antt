@@ -25,7 +25,7 @@ invariant_of-self-2 c =
     let room : length l.members.items < LAST_NUMBER = subst (λ (v : LineView). length v.members < LAST_NUMBER) (sym c.self.view_is) c.requires.room in
     let links = subst (λ (v : LineView). LinksBehind (origin_of v.setting) v.members e) (sym c.self.view_is) c.requires.links in
     let whole = lined_after l.setting l.members.items l.last c.entry_name-self-inside.result l.plans.items c.place_after.new.plans.items l.in_force.items e before c.in_ok-place.place e.plan lined room links
-        c.entry_name-self-inside.ensures refl at c.in_ok-place.ensures.ok in
+    c.entry_name-self-inside.ensures refl at c.in_ok-place.ensures.ok in
     record {
       setting = c.self.invariant.setting;
       lined =
