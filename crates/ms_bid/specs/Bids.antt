@@ -1,5 +1,5 @@
 -- A bid: what is pending, and what came of what was done.
-use Rattle.std.specs.Prelude.{◌≡◌, ◌≢◌, ℕ, ◌+◌, ◌-◌, Bool, true, false, List, Option, Some, None, Contains, length, slice_set, replicate, ◌⊎◌}
+use Rattle.std.specs.Prelude.{◌≡◌, ◌≢◌, ℕ, ◌+◌, ◌-◌, ◌≤◌, Bool, true, false, List, Option, Some, None, Contains, length, slice_set, replicate, ◌⊎◌}
 use Rattle.ms_base.specs.declared.names.ClientId.{ClientId}
 use Rattle.ms_record.specs.declared.ballot.Ballot.{Ballot}
 use Rattle.ms_record.specs.declared.ballot.Vote.{Vote}
@@ -67,7 +67,7 @@ abbrev pub IsEnd : Bid → Outcome → Type 0
 IsEnd b (Decided entry) = IsLooked b × (b.offer ≡ Some entry) × Most Taken b.second_looks b.voters
 IsEnd b Nothing = IsLooked b × HasNothing b × NoneGreater b.first_looks b.ballot
 IsEnd b (Outbid service top) =
-    IsLooked b × LeastGreater (seen_of b.offer b.first_looks b.second_looks) b.ballot service.0 top
+    IsLooked b × LeastGreater (seen_of b.offer b.first_looks b.second_looks) b.ballot service.0 top × (flag_at b.failed service.0 ≡ false)
     × (HasNothing b ⊎ (Lacks b × (IsHalf b.failed b.voters → ⊥)))
 IsEnd b (NoMajority those) = IsLooked b × Lacks b × (those ≡ b.failed) × IsHalf b.failed b.voters
 IsEnd b (Unlisted service) =
@@ -84,6 +84,10 @@ abbrev pub NoSecond : Option Entry → List (Option Sight) → Type 0
 NoSecond None second = second ≡ replicate 16 None
 NoSecond (Some entry) second = Unit {0}
 
+-- in this round of looks nothing was seen from this service on
+abbrev pub NoneSeenFrom : List (Option Sight) → ℕ → Type 0
+NoneSeenFrom seen service = (s : ℕ) → service ≤ s → sight_at seen s ≡ None
+
 -- a voter that did not fail
 pub record IsAsked (b : Bid) (service : ℕ) : Type 0 where
   pub votes : Contains b.voters service
@@ -96,6 +100,7 @@ IsPending b (Send service message) =
     IsAsked b service.0 × (message ≡ message_of b.position b.ballot b.offer) × AllSent b.sent b.failed b.voters service.0 × IsUnseen b.offer b.first_looks b.second_looks
 IsPending b (Look service) =
     IsAsked b service.0 × AllSent b.sent b.failed b.voters 16 × AllSeen (seen_of b.offer b.first_looks b.second_looks) b.failed b.voters service.0 × NoSecond b.offer b.second_looks
+    × NoneSeenFrom (seen_of b.offer b.first_looks b.second_looks) service.0
 IsPending b (Declare offer) =
     IsLooked b × (entry : Entry) × (offer ≡ Accept b.position b.ballot entry) × IsOfferOf b.first_looks b.voters b.want entry × (b.offer ≡ None) × (b.second_looks ≡ replicate 16 None)
 IsPending b (End outcome) = IsEnd b outcome
@@ -107,6 +112,10 @@ OnlySeen sights voters = (s : ℕ) (sight : Sight) → sight_at sights s ≡ Som
 -- it is true of voters alone
 abbrev pub OnlyOf : List Bool → List ℕ → Type 0
 OnlyOf flags voters = (s : ℕ) → flag_at flags s ≡ true → Contains voters s
+
+-- no service failed that was looked at in this round
+abbrev pub SeenAreFree : List (Option Sight) → List Bool → Type 0
+SeenAreFree seen failed = (s : ℕ) (sight : Sight) → sight_at seen s ≡ Some sight → flag_at failed s ≡ false
 
 -- what stays so throughout a bid
 pub record IsFramed (b : Bid) : Type 0 where
@@ -121,6 +130,7 @@ pub record IsFramed (b : Bid) : Type 0 where
   pub first_of : OnlySeen b.first_looks b.voters
   pub second_of : OnlySeen b.second_looks b.voters
   pub failed_of : OnlyOf b.failed b.voters
+  pub seen_free : SeenAreFree (seen_of b.offer b.first_looks b.second_looks) b.failed
 
 pub record IsBid (b : Bid) : Type 0 where
   pub framed : IsFramed b

@@ -1,6 +1,7 @@
 -- Views of the board that services and clients share: what supports an item, and when a view is closed.
 use Rattle.std.specs.Prelude.{◌≡◌, ◌≢◌, ℕ, ◌+◌, ◌<◌, ◌⊎◌, List, [], ◌∷◌, ◌++◌, Some, Contains}
 use Rattle.sha2.specs.Sha256.{sha256}
+use Rattle.ms_base.specs.declared.limits.TheConstants.{CLIENTS, SERVICES}
 use Rattle.ms_base.specs.declared.names.ClientId.{ClientId}
 use Rattle.ms_base.specs.declared.names.Name.{Name}
 use Rattle.ms_core.specs.Placing.{PlacedBy}
@@ -33,10 +34,10 @@ View = List (List Item)
 
 -- the owners: the services 0 to 15, then the clients 0 to 15, then the configuration
 abbrev pub owner_of_client : ℕ → ℕ
-owner_of_client client = 16 + client
+owner_of_client client = SERVICES + client
 
 abbrev pub configuration : ℕ
-configuration = 32
+configuration = SERVICES + CLIENTS
 
 -- the log of each service, and the offers of each client
 abbrev pub log_in : View → ℕ → List LogEvent

@@ -1,7 +1,9 @@
 -- Calls on the services by the first lane of a desk, and what each leaves, by the answer.
-use Rattle.std.specs.Prelude.{◌≡◌, ℕ, Bool, true, false, List, drop, length, Option, Some, None, Result, Ok, Err, Contains}
+use Rattle.std.specs.Prelude.{◌≡◌, ◌≢◌, ℕ, ◌≤◌, Bool, true, false, List, drop, length, slice_get, Option, Some, None, Result, Ok, Err}
 use Rattle.ms_base.specs.declared.bytes.NoMemory.{NoMemory}
 use Rattle.ms_base.specs.declared.names.ServiceId.{ServiceId}
+use Rattle.ms_ken.specs.Lists.{list_at}
+use Rattle.ms_record.specs.declared.item.Item.TheVariants.{Log}
 use Rattle.ms_core.specs.Views.{log_in, offers_told, SupportsEvent}
 use Rattle.ms_link.specs.Links.{Learns as PassLearns}
 use Rattle.ms_link.specs.declared.fault.LinkError.{LinkError}
@@ -15,13 +17,14 @@ use Rattle.ms_record.specs.Records.{record_text}
 use Rattle.ms_local.specs.declared.deed.Deed.TheVariants.{Appended, Listed}
 use Rattle.ms_local.specs.declared.deed.Message.{Message}
 use Rattle.ms_local.specs.declared.deed.Message.TheVariants.{Ref, Vote}
-use Rattle.ms_local.specs.Desks.{DeskView, KnowsTold, HasFault, LanesStay, OnTold, with_deed}
+use Rattle.ms_local.specs.Desks.{DeskView, KnowsTold, HasFault, LanesStay, OnTold, first_link, with_deed}
 
--- links were called, and the pass learns; all else stays
-pub record DeskCalls (old new : DeskView) : Type 0 where
+-- the first lane's link to this service was called, and the pass learns; all else stays
+pub record DeskCalls (service : ℕ) (old new : DeskView) : Type 0 where
   pub same : new ≡ record old { pass = new.pass; lanes = new.lanes }
   pub pass : PassLearns old.pass new.pass
   pub lanes : LanesStay old.lanes new.lanes
+  pub others : (s : ℕ) → s ≢ service → first_link new s ≡ first_link old s
 
 -- the texts of a service's list, from a place on, to an end that the pass then knows
 abbrev pub ListsAt : DeskView → DeskView → ℕ → ℕ → ℕ → Result (List (List ℕ)) LinkError → Type 0
@@ -30,9 +33,9 @@ ListsAt old new s list from (Err errors.Failed) = HasFault old new s
 ListsAt old new s list from (Err (errors.Stale floor)) = ⊥
 ListsAt old new s list from (Err errors.NoMemory) = Unit {0}
 
--- an event of a service's log, which the pass then knows
+-- an event of a service's log, which the pass then knows, behind all that it knew before
 abbrev pub AppendsAt : DeskView → DeskView → ℕ → LogEvent → Result Unit LinkError → Type 0
-AppendsAt old new s event (Ok u) = OnTold old (Contains (log_in new.pass.lists s) event)
+AppendsAt old new s event (Ok u) = OnTold old ((place : ℕ) × (length (list_at old.pass.lists s) ≤ place) × (slice_get (list_at new.pass.lists s) place ≡ Some (Log event)))
 AppendsAt old new s event (Err errors.Failed) = HasFault old new s
 AppendsAt old new s event (Err (errors.Stale floor)) = ⊥
 AppendsAt old new s event (Err errors.NoMemory) = Unit {0}
@@ -48,12 +51,12 @@ message_text (Ref text) = text
 
 -- the same calls, each noted by one deed; none where memory ran out. None and false: the link failed
 abbrev pub ListsNoted : DeskView → DeskView → ServiceId → ListId → ℕ → Result (Option (List (List ℕ))) NoMemory → Type 0
-ListsNoted old new service list from (Ok (Some texts)) = ListsAt old new service.0 list.0 from (Ok texts) × DeskCalls (with_deed old (Listed service list from (length texts) true)) new
-ListsNoted old new service list from (Ok None) = HasFault old new service.0 × DeskCalls (with_deed old (Listed service list from 0 false)) new
-ListsNoted old new service list from (Err error) = DeskCalls old new
+ListsNoted old new service list from (Ok (Some texts)) = ListsAt old new service.0 list.0 from (Ok texts) × DeskCalls service.0 (with_deed old (Listed service list from (length texts) true)) new
+ListsNoted old new service list from (Ok None) = HasFault old new service.0 × DeskCalls service.0 (with_deed old (Listed service list from 0 false)) new
+ListsNoted old new service list from (Err error) = DeskCalls service.0 old new
 
 abbrev pub AppendsNoted : DeskView → DeskView → ServiceId → ListId → Message → Result Bool NoMemory → Type 0
 AppendsNoted old new service list message (Ok true) =
-    AppendsAt old new service.0 (Rec list (message_text message)) (Ok tt) × DeskCalls (with_deed old (Appended service list message true)) new
-AppendsNoted old new service list message (Ok false) = HasFault old new service.0 × DeskCalls (with_deed old (Appended service list message false)) new
-AppendsNoted old new service list message (Err error) = DeskCalls old new
+    AppendsAt old new service.0 (Rec list (message_text message)) (Ok tt) × DeskCalls service.0 (with_deed old (Appended service list message true)) new
+AppendsNoted old new service list message (Ok false) = HasFault old new service.0 × DeskCalls service.0 (with_deed old (Appended service list message false)) new
+AppendsNoted old new service list message (Err error) = DeskCalls service.0 old new

@@ -46,9 +46,10 @@ pub record IsOfDesk (chain : ChainView) (desk : DeskView) : Type 0 where
   pub client : desk.client < chain.setting.clients
   pub known : (setting : Setting) → KnowsTold desk setting → IsKnown chain desk setting
 
--- this entry is chosen behind the members, by what the chain has read, and links on to them
+-- this entry alone is chosen behind the members, by what the chain has read, and it links on to them
 pub record IsNextRead (chain : ChainView) (members : List Entry) (e : Entry) : Type 0 where
   pub chosen : ChosenBy (votes_read chain) (voters_behind (origin_of chain.setting) members) (length members + 1) e
+  pub only : (f : Entry) → ChosenBy (votes_read chain) (voters_behind (origin_of chain.setting) members) (length members + 1) f → f ≡ e
   pub links : LinksBehind (origin_of chain.setting) members e
 
 -- the chain and what it has read go on, and each member that it gained is chosen by what it has read and links on
@@ -157,10 +158,6 @@ pub record IsSplit (chain : ChainView) (position : ℕ) (first second : List ℕ
   pub one_named : first ≡ name_of one
   pub other_named : second ≡ name_of other
 
--- some two are chosen there
-abbrev pub SplitsAt : ChainView → ℕ → Type 0
-SplitsAt chain position = (first second : List ℕ) × IsSplit chain position first second
-
 -- what was learnt: enough was read, no position is split by it, and nothing more is to be gained
 pub record IsLearnt (old new : ChainView) (before after : DeskView) (learnt : Learnt) : Type 0 where
   pub reads : ReadsEnough old new before after
@@ -173,7 +170,7 @@ pub record IsLearnt (old new : ChainView) (before after : DeskView) (learnt : Le
 abbrev pub Learns : ChainView → ChainView → DeskView → DeskView → Result Learnt Refusal → Type 0
 Learns old new before after (Ok learnt) = IsLearnt old new before after learnt
 Learns old new before after (Err (refusals.NoMajority failed)) =
-    ReadsAll old new before after failed × LacksMajority new failed × (IsWhole new ⊎ SplitsAt new (length new.members + 1))
+    ReadsAll old new before after failed × LacksMajority new failed × IsWhole new
 Learns old new before after (Err (refusals.Split position first second)) =
     ReadsEnough old new before after × IsSplit new position first.0 second.0 × OnTold before ⊥
 Learns old new before after (Err refusals.NoMemory) = Unit {0}

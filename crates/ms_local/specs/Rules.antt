@@ -1,6 +1,7 @@
 -- The rules that the deeds of a command keep.
-use Rattle.std.specs.Prelude.{◌≡◌, ◌⊎◌, ℕ, zero, suc, ◌+◌, ◌<◌, ◌==◌, ◌&&◌, Bool, true, false, List, [], ◌∷◌, ◌++◌, Option, Some, None, length, max, replicate, slice_set, slice_index_or}
+use Rattle.std.specs.Prelude.{◌≡◌, ◌⊎◌, ℕ, zero, suc, ◌+◌, ◌<◌, ◌==◌, ◌&&◌, Bool, true, false, List, [], ◌∷◌, ◌++◌, Option, Some, None, length, max, replicate, slice_set, slice_index_or, Contains}
 use Rattle.std.specs.List.{list_any}
+use Rattle.ms_base.specs.declared.names.ServiceId.{ServiceId}
 use Rattle.ms_record.specs.declared.ballot.Ballot.{Ballot}
 use Rattle.ms_record.specs.declared.ballot.Vote.{Vote}
 use Rattle.ms_record.specs.declared.entry.Entry.{Entry}
@@ -14,21 +15,23 @@ use Rattle.ms_local.specs.declared.deed.Message.TheVariants.{Vote as VoteText, R
 use Rattle.ms_local.specs.declared.deed.Deed.{Deed}
 use Rattle.ms_local.specs.declared.deed.Deed.TheVariants as deeds
 
--- what a bid is for: its own entry, where it has one, and the voters of its position
+-- what a bid is for: its own entry, where it has one, its position and the voters there
 pub record Intent : Type 0 where
   pub want : Option Entry
   pub voters : List ℕ
+  pub position : ℕ
 
 -- what the deeds so far leave for the next. `top` is the greatest of the round that the command read, those that it kept and those
--- that its sights showed; `kept` is the last round kept with ok; the rest is of the bid that goes on, from its Kept on: the services
--- whose call failed, and by service what the looks before the declaration and those after it showed
+-- that its sights showed; the rest is of the bid that goes on, from its Kept on: its round where that was kept with ok; the services
+-- whose call failed, those that took its present message, the Prepare or behind the declaration the Accept, and by service what the
+-- looks before the declaration and those after it showed
 pub record Bidding : Type 0 where
   pub top : ℕ
   pub kept : Option ℕ
   pub intent : Intent
-  pub position : Option ℕ
   pub declared : Option Record
   pub failed : List Bool
+  pub sent : List Bool
   pub looks : List (Option Sight)
   pub votes : List (Option Sight)
 
@@ -37,10 +40,10 @@ abbrev pub begun_at : ℕ → ℕ → Bidding
 begun_at n round = record {
   top = round;
   kept = None;
-  intent = record { want = None; voters = [] };
-  position = None;
+  intent = record { want = None; voters = []; position = 0 };
   declared = None;
   failed = replicate n false;
+  sent = replicate n false;
   looks = replicate n None;
   votes = replicate n None;
 }
@@ -90,28 +93,25 @@ pub record IsDecided (s : Bidding) (position : ℕ) (entry : Entry) : Type 0 whe
 
 -- ---- what may be done next
 
--- the service may be asked in this bid: no call to it failed
+-- the service may be asked in this bid: it votes there, and no call to it failed
 pub record IsAsked (s : Bidding) (service : ℕ) : Type 0 where
   pub within : service < length s.failed
+  pub votes : Contains s.intent.voters service
   pub answers : slice_index_or s.failed service false ≡ false
 
-abbrev pub IsAt : Option ℕ → ℕ → Type 0
-IsAt None k = Unit {0}
-IsAt (Some p) k = p ≡ k
-
--- a Prepare has the ballot of the last round that was kept, and the bid's position; an Accept is the last offer
+-- a Prepare has the ballot of the bid's round, which was kept, and the bid's position; an Accept is its offer
 abbrev pub MayVote : ℕ → Bidding → Message → Type 0
-MayVote who s (VoteText (Prepare k b)) = (s.kept ≡ Some b.round) × (b.client.0 ≡ who) × IsAt s.position k
+MayVote who s (VoteText (Prepare k b)) = (s.kept ≡ Some b.round) × (b.client.0 ≡ who) × (k ≡ s.intent.position)
 MayVote who s (VoteText (Accept k b e)) = s.declared ≡ Some (Accept k b e)
 MayVote who s (Ref text) = ⊥
 
--- list 0 has the votes
+-- list 0 has the votes; a message of the bid is sent to no service twice
 abbrev pub MayAppend : ℕ → Bidding → ℕ → ℕ → Message → Type 0
-MayAppend who s service zero message = IsAsked s service × MayVote who s message
+MayAppend who s service zero message = IsAsked s service × (slice_index_or s.sent service false ≡ false) × MayVote who s message
 MayAppend who s service (suc client) message = Unit {0}
 
 abbrev pub MayDeclare : ℕ → Bidding → Record → Type 0
-MayDeclare who s (Accept k b e) = (s.kept ≡ Some b.round) × (b.client.0 ≡ who) × IsAt s.position k × IsOfferOf s.intent s.looks e × (s.declared ≡ None)
+MayDeclare who s (Accept k b e) = (s.kept ≡ Some b.round) × (b.client.0 ≡ who) × (k ≡ s.intent.position) × IsOfferOf s.intent s.looks e × (s.declared ≡ None)
 MayDeclare who s (Prepare k b) = ⊥
 
 -- what may be done next, but for what begins a bid or a line. Rules of placing, of reading and of the folder have their place here
@@ -129,19 +129,20 @@ abbrev pub top_after : ℕ → ℕ → Bool → ℕ
 top_after top round true = max top round
 top_after top round false = top
 
-abbrev pub kept_after : Option ℕ → ℕ → Bool → Option ℕ
-kept_after kept round true = Some round
-kept_after kept round false = kept
+-- nothing is sent of a bid whose round was not kept
+abbrev pub kept_after : ℕ → Bool → Option ℕ
+kept_after round true = Some round
+kept_after round false = None
 
 -- a bid begins with the keeping of its round; a round that was not kept does not count
 abbrev pub bid_begun : Bidding → Intent → ℕ → Bool → Bidding
 bid_begun s intent round ok = record {
   top = top_after s.top round ok;
-  kept = kept_after s.kept round ok;
+  kept = kept_after round ok;
   intent = intent;
-  position = None;
   declared = None;
   failed = replicate (length s.failed) false;
+  sent = replicate (length s.failed) false;
   looks = replicate (length s.failed) None;
   votes = replicate (length s.failed) None;
 }
@@ -150,17 +151,16 @@ abbrev pub shown_round : Option Ballot → ℕ
 shown_round None = 0
 shown_round (Some ballot) = ballot.round
 
-abbrev pub position_after : Option ℕ → Message → Option ℕ
-position_after position (VoteText (Prepare k b)) = Some k
-position_after position (VoteText (Accept k b e)) = position
-position_after position (Ref text) = position
-
 abbrev pub failed_after : List Bool → ℕ → Bool → List Bool
 failed_after failed service true = failed
 failed_after failed service false = slice_set failed service true
 
+abbrev pub sent_after : List Bool → ℕ → Bool → List Bool
+sent_after sent service true = slice_set sent service true
+sent_after sent service false = sent
+
 abbrev pub with_append : Bidding → ℕ → ℕ → Message → Bool → Bidding
-with_append s service zero message ok = record s { failed = failed_after s.failed service ok; position = position_after s.position message }
+with_append s service zero message ok = record s { failed = failed_after s.failed service ok; sent = sent_after s.sent service ok }
 with_append s service (suc client) message ok = s
 
 -- a sight before the declaration is a look, one behind it a vote
@@ -171,11 +171,15 @@ with_sight s declared service sight false = record s { failed = slice_set s.fail
 
 abbrev pub done : Bidding → Deed → Bidding
 done s (deeds.Appended service list message ok) = with_append s service.0 list.0 message ok
-done s (deeds.Declared offer) = record s { declared = Some offer }
+done s (deeds.Declared offer) = record s { declared = Some offer; sent = replicate (length s.failed) false }
 done s (deeds.Looked service sight ok) = with_sight s s.declared service.0 sight ok
 done s deed = s
 
 -- ---- runs
+
+-- among the deeds is a look with ok at the service, whose sight shows it
+abbrev pub ShowsIn : List Deed → ℕ → (Sight → Bool) → Type 0
+ShowsIn done service shows = (id : ServiceId) × (sight : Sight) × (id.0 ≡ service) × (shows sight ≡ true) × Contains done (deeds.Looked id sight true)
 
 -- one deed, from one state to the next. A Kept has a round one above the greatest so far, and takes the next of the bids' intents
 abbrev pub Step : ℕ → Bidding → List Intent → Deed → Bidding → List Intent → Type 0

@@ -1,5 +1,5 @@
 -- What the deeds of a command say of the services, of the keeper and of the client's own list.
-use Rattle.std.specs.Prelude.{◌≡◌, ℕ, ◌+◌, ◌≤◌, true, false, List, [], ◌∷◌, ◌++◌, Some, Contains}
+use Rattle.std.specs.Prelude.{◌≡◌, ℕ, ◌+◌, ◌≤◌, Bool, true, false, List, [], ◌∷◌, ◌++◌, Option, Some, None, Contains}
 use mathlib.Core.List.{IsPrefix}
 use Rattle.ms_base.specs.Counts.{Rose}
 use Rattle.ms_core.specs.Views.{View, log_in, owner_of_client, votes_told}
@@ -13,20 +13,27 @@ use Rattle.ms_record.specs.declared.sight.Sight.{Sight}
 use Rattle.ms_record.specs.Logs.{texts_in}
 use Rattle.ms_record.specs.Sights.{IsSight}
 use Rattle.ms_local.specs.declared.deed.Deed.{Deed}
-use Rattle.ms_local.specs.declared.deed.Deed.TheVariants.{KeepFailed, Kept as KeptDeed, StateKept, Appended, Declared, Looked, Listed}
+use Rattle.ms_local.specs.declared.deed.Deed.TheVariants as deeds
+use Rattle.ms_local.specs.declared.deed.Deed.TheVariants.{Kept as KeptDeed, Appended, Declared, Looked}
 use Rattle.ms_local.specs.declared.deed.Message.TheVariants.{Vote}
 use Rattle.ms_local.specs.declared.kept.Kept.{Kept}
 use Rattle.ms_local.specs.Calls.{message_text}
-use Rattle.ms_local.specs.Desks.{DeskView, OnTold, faults_at}
+use Rattle.ms_local.specs.Desks.{DeskView, HasFault, OnTold}
 use Rattle.ms_local.specs.Keeping.{state_in}
 use Rattle.ms_local.specs.Outside.{WhereTold}
 
 -- ---- the state
 
--- the state is as the keeper has it, but for a round that is greater; or for one that is less by the slack, 1 where a keeping
--- failed or found no memory, else 0
+-- the state is as the keeper has it, but for its round, which is at least the keeper's; less than that by the slack at most, 1 where
+-- a keeping failed or found no memory, else 0
 abbrev pub IsStateAt : ℕ → DeskView → Kept → Type 0
 IsStateAt slack desk kept = WhereTold desk.keep.told ((had : Kept) × (state_in desk.keep.texts ≡ Some had) × (kept ≡ record had { round = kept.round }) × (had.round ≤ kept.round + slack))
+
+-- the last round that these deeds kept with ok, or else this one
+abbrev pub last_kept : ℕ → List Deed → ℕ
+last_kept round [] = round
+last_kept round (KeptDeed next true ∷ deeds) = last_kept next deeds
+last_kept round (deed ∷ deeds) = last_kept round deeds
 
 -- ---- the own list
 
@@ -44,16 +51,43 @@ pub record OwnHistory (old new : DeskView) : Type 0 where
 
 -- ---- deeds that are true
 
--- what was appended with ok stands in its list, where a setting is told; a call without ok failed: its count of faults rose
+-- what a look shows that failed
+abbrev pub no_sight : Sight
+no_sight = record { promised = false; best = None; taken = false; top = None }
+
+-- a call on an object answered, or showed a floor, or failed
+abbrev pub MayFail : DeskView → DeskView → ℕ → Bool → Option ℕ → Type 0
+MayFail old new service true floor = Unit {0}
+MayFail old new service false (Some floor) = Unit {0}
+MayFail old new service false None = HasFault old new service
+
+-- what was appended with ok stands in its list, where a setting is told; a call without ok failed: its count of faults rose, and it
+-- brought nothing. What a keeping leaves is told by the last kept round, a declaration by the own list, a look with ok by `TrueLooks`.
+-- Nothing is said yet of deeds on objects and on the folder, but that a failed call has its fault
 abbrev pub IsTrueDeed : DeskView → DeskView → Deed → Type 0
-IsTrueDeed old new (Appended service list message true) = OnTold old (Contains (texts_in list.0 (log_in new.pass.lists service.0)) (message_text message))
-IsTrueDeed old new (Appended service list message false) = Rose (faults_at old service.0) (faults_at new service.0)
-IsTrueDeed old new (Looked service sight false) = Rose (faults_at old service.0) (faults_at new service.0)
-IsTrueDeed old new (Listed service list from count false) = Rose (faults_at old service.0) (faults_at new service.0)
-IsTrueDeed old new (KeptDeed round false) = Rose old.keep.faults new.keep.faults
-IsTrueDeed old new (StateKept false) = Rose old.keep.faults new.keep.faults
-IsTrueDeed old new KeepFailed = Rose old.keep.faults new.keep.faults
-IsTrueDeed old new deed = Unit {0}
+IsTrueDeed old new (deeds.Begun line) = Unit {0}
+IsTrueDeed old new deeds.KeepFailed = Rose old.keep.faults new.keep.faults
+IsTrueDeed old new (deeds.Kept round true) = Unit {0}
+IsTrueDeed old new (deeds.Kept round false) = Rose old.keep.faults new.keep.faults
+IsTrueDeed old new (deeds.StateKept true) = Unit {0}
+IsTrueDeed old new (deeds.StateKept false) = Rose old.keep.faults new.keep.faults
+IsTrueDeed old new (deeds.Appended service list message true) = OnTold old (Contains (texts_in list.0 (log_in new.pass.lists service.0)) (message_text message))
+IsTrueDeed old new (deeds.Appended service list message false) = HasFault old new service.0
+IsTrueDeed old new (deeds.Declared offer) = Unit {0}
+IsTrueDeed old new (deeds.Looked service sight true) = Unit {0}
+IsTrueDeed old new (deeds.Looked service sight false) = (sight ≡ no_sight) × HasFault old new service.0
+IsTrueDeed old new (deeds.Listed service list from count true) = Unit {0}
+IsTrueDeed old new (deeds.Listed service list from count false) = (count ≡ 0) × HasFault old new service.0
+IsTrueDeed old new (deeds.Asked service generation name present ok floor) = MayFail old new service.0 ok floor
+IsTrueDeed old new (deeds.Put service generation name ok floor) = MayFail old new service.0 ok floor
+IsTrueDeed old new (deeds.Got service generation name found ok floor) = MayFail old new service.0 ok floor
+IsTrueDeed old new (deeds.Dropped service generation ok) = MayFail old new service.0 ok None
+IsTrueDeed old new (deeds.Scanned true) = Unit {0}
+IsTrueDeed old new (deeds.Scanned false) = Rose old.work.faults new.work.faults
+IsTrueDeed old new (deeds.Wrote path true) = Unit {0}
+IsTrueDeed old new (deeds.Wrote path false) = Rose old.work.faults new.work.faults
+IsTrueDeed old new (deeds.Removed path true) = Unit {0}
+IsTrueDeed old new (deeds.Removed path false) = Rose old.work.faults new.work.faults
 
 -- the sight is what a list shows of the bid of the ballot at the position: no shorter than the low view has it, no longer than the
 -- high one
@@ -68,7 +102,7 @@ ballot_at who round = record { round = round; client = record { 0 = who } }
 
 -- Of the deeds of a bid of this round at this position, and of the bids after it: each Prepare is for the position, and where a
 -- setting is told each look with ok is what a list shows of the bid. A bid begins with the keeping of its round, and has a
--- position of its own.
+-- position of its own. Where this is so of each position and round, no Prepare and no look comes before the first keeping.
 abbrev pub TrueLooks : DeskView → DeskView → ℕ → ℕ → List Deed → Type 0
 TrueLooks old new position round [] = Unit {0}
 TrueLooks old new position round (KeptDeed next ok ∷ deeds) = (own : ℕ) × TrueLooks old new own next deeds

@@ -4,7 +4,7 @@ ghost use Rattle.std.specs.Prelude.{◌≡◌, ◌<◌, ◌≤◌, IfOk, length}
 ghost use Rattle.ms_record.specs.declared.log.LogEvent.TheVariants.{Rec};
 ghost use Rattle.ms_local.specs.Calls.{AppendsAt, AppendsNoted, DeskCalls, IsSupportedAt, ListsAt, ListsNoted, message_text};
 ghost use Rattle.ms_local.specs.Desks.{IsDesk, desk_view};
-ghost use Rattle.ms_local.specs.declared.deed.Deed.TheVariants as acts;
+ghost use Rattle.ms_local.specs.declared.deed.Deed.TheVariants as deeds;
 
 use crate::deed::{Deed, Message};
 use crate::desk::Desk;
@@ -30,7 +30,7 @@ pub fn list_texts<W: Work + Drop, K: Keeper + Drop, L: Link<FoldClosed> + Drop>(
     requires desk { IsDesk (desk_view W.sees K.sees L.sees desk.old) }
     requires service { service.0 < desk.old.services }
     ensures lists { ListsAt (desk_view W.sees K.sees L.sees desk.old) (desk_view W.sees K.sees L.sees desk.new) service.0 list.0 from result }
-    ensures effect { DeskCalls (desk_view W.sees K.sees L.sees desk.old) (desk_view W.sees K.sees L.sees desk.new) }
+    ensures effect { DeskCalls service.0 (desk_view W.sees K.sees L.sees desk.old) (desk_view W.sees K.sees L.sees desk.new) }
     ensures desk { IsDesk (desk_view W.sees K.sees L.sees desk.new) }
 {
     desks_stay();
@@ -52,7 +52,7 @@ pub fn append_text<W: Work + Drop, K: Keeper + Drop, L: Link<FoldClosed> + Drop>
     requires short { length text.now ≤ OBJECT_BYTES }
     requires supported { IsSupportedAt (desk_view W.sees K.sees L.sees desk.old) (Rec list text.now) }
     ensures appends { AppendsAt (desk_view W.sees K.sees L.sees desk.old) (desk_view W.sees K.sees L.sees desk.new) service.0 (Rec list text.now) result }
-    ensures effect { DeskCalls (desk_view W.sees K.sees L.sees desk.old) (desk_view W.sees K.sees L.sees desk.new) }
+    ensures effect { DeskCalls service.0 (desk_view W.sees K.sees L.sees desk.old) (desk_view W.sees K.sees L.sees desk.new) }
     ensures desk { IsDesk (desk_view W.sees K.sees L.sees desk.new) }
 {
     desks_stay();
@@ -124,7 +124,7 @@ pub fn append_noted<W: Work + Drop, K: Keeper + Drop, L: Link<FoldClosed> + Drop
 }
 
 fn listed(service: ServiceId, list: ListId, from: u64, count: u64, ok: bool) -> Deed
-    ensures { result ≡ acts.Listed service list from count ok }
+    ensures { result ≡ deeds.Listed service list from count ok }
 {
     Deed::Listed {
         service,
@@ -136,7 +136,7 @@ fn listed(service: ServiceId, list: ListId, from: u64, count: u64, ok: bool) -> 
 }
 
 fn appended(service: ServiceId, list: ListId, message: Message, ok: bool) -> Deed
-    ensures { result ≡ acts.Appended service list message ok }
+    ensures { result ≡ deeds.Appended service list message ok }
 {
     Deed::Appended {
         service,

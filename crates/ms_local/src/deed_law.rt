@@ -1,13 +1,12 @@
 //! Laws of the deeds of a command.
 
 ghost use Rattle.std.specs.Prelude.{◌≡◌, ◌+◌, ◌<◌, ◌++◌, ◌∷◌, [], ℕ, Bool, true, List, Some, Contains};
-ghost use Rattle.ms_base.specs.declared.names.ServiceId.{ServiceId};
 ghost use Rattle.ms_record.specs.declared.entry.Entry.{Entry};
+ghost use Rattle.ms_record.specs.declared.record.Record.{Record};
 ghost use Rattle.ms_record.specs.declared.record.Record.TheVariants.{Accept};
-ghost use Rattle.ms_record.specs.declared.sight.Sight.{Sight};
 ghost use Rattle.ms_local.specs.declared.deed.Deed.{Deed};
-ghost use Rattle.ms_local.specs.declared.deed.Deed.TheVariants as acts;
-ghost use Rattle.ms_local.specs.Rules.{Bidding, Did, HasRun, Intent, IsDecided, Run, Step, begun_at, bid_begun, done, taken_by};
+ghost use Rattle.ms_local.specs.declared.deed.Deed.TheVariants as deed;
+ghost use Rattle.ms_local.specs.Rules.{Bidding, Did, HasRun, Intent, IsDecided, Run, ShowsIn, Step, begun_at, bid_begun, done, promised_by, taken_by};
 
 /// Deeds of one call and then of another are those of both, and what keeps the rules does so up to each place.
 pub fn deeds_compose()
@@ -25,7 +24,7 @@ pub fn deeds_go_on()
     ensures may { (who : ℕ) (old mid new : List Deed) (s t : Bidding) (own : List Intent) (deed : Deed)
         → Did who old mid s own t → new ≡ mid ++ deed ∷ [] → Step who t [] deed (done t deed) [] → Did who old new s own (done t deed) }
     ensures bid { (who : ℕ) (old mid new : List Deed) (s t : Bidding) (own : List Intent) (intent : Intent) (round : ℕ) (ok : Bool)
-        → Did who old mid s own t → new ≡ mid ++ acts.Kept round ok ∷ [] → round ≡ t.top + 1
+        → Did who old mid s own t → new ≡ mid ++ deed.Kept round ok ∷ [] → round ≡ t.top + 1
         → Did who old new s (own ++ intent ∷ []) (bid_begun t intent round ok) }
 {}
 
@@ -33,11 +32,15 @@ pub fn deeds_go_on()
 pub fn deeds_show()
     // Each round that is kept, or is to be, is above the one that the command read.
     ensures rounds { (n who read : ℕ) (own : List Intent) (deeds : List Deed) (t : Bidding) (round : ℕ) (ok : Bool)
-        → Run who (begun_at n read) own deeds t → Contains deeds (acts.Kept round ok) → read < round }
+        → Run who (begun_at n read) own deeds t → Contains deeds (deed.Kept round ok) → read < round }
     // A bid is decided only where its offer was declared, and a majority of its voters was seen to have taken it.
     ensures declared { (n who read : ℕ) (own : List Intent) (deeds : List Deed) (t : Bidding) (position : ℕ) (entry : Entry)
-        → Run who (begun_at n read) own deeds t → (decided : IsDecided t position entry) → Contains deeds (acts.Declared (Accept position decided.ballot entry)) }
-    ensures taken { (n who read : ℕ) (own : List Intent) (deeds : List Deed) (t : Bidding) (voters : List ℕ) (service : ℕ)
-        → Run who (begun_at n read) own deeds t → taken_by voters t.votes service ≡ true
-        → (id : ServiceId) × (sight : Sight) × (id.0 ≡ service) × (sight.taken ≡ true) × Contains deeds (acts.Looked id sight true) }
+        → Run who (begun_at n read) own deeds t → (decided : IsDecided t position entry) → Contains deeds (deed.Declared (Accept position decided.ballot entry)) }
+    ensures taken { (n who read : ℕ) (own : List Intent) (deeds : List Deed) (t : Bidding) (voters : List ℕ) (offer : Record) (service : ℕ)
+        → Run who (begun_at n read) own deeds t → t.declared ≡ Some offer → taken_by voters t.votes service ≡ true
+        → (front rest : List Deed) × (deeds ≡ front ++ deed.Declared offer ∷ rest) × ShowsIn rest service (λ sight. sight.taken) }
+    // An offer stands on sights of the bid alone: who promised was looked at behind the keeping of the bid's round.
+    ensures promised { (n who read : ℕ) (own : List Intent) (deeds : List Deed) (t : Bidding) (voters : List ℕ) (round service : ℕ)
+        → Run who (begun_at n read) own deeds t → t.kept ≡ Some round → promised_by voters t.looks service ≡ true
+        → (front rest : List Deed) × (deeds ≡ front ++ deed.Kept round true ∷ rest) × ShowsIn rest service (λ sight. sight.promised) }
 {}

@@ -27,12 +27,9 @@ use Rattle.ms_replay.specs.Looks.{IsInRange}
 use Rattle.ms_local.specs.Keeping.{HasState, MayHaveState}
 use Rattle.ms_local.specs.Outside.{WhereTold}
 use Rattle.ms_local.specs.Rules.{shown_round}
-use Rattle.ms_local.specs.Truths.{IsTrueSight}
+use Rattle.ms_local.specs.Truths.{IsTrueSight, no_sight}
 use Rattle.ms_propose.specs.declared.acts.Aim.{Aim}
 use Rattle.ms_propose.specs.Going.{DeskBids}
-
-abbrev pub no_sight : Sight
-no_sight = record { promised = false; best = None; taken = false; top = None }
 
 abbrev pub vote_list : ListId
 vote_list = record { 0 = 0 }

@@ -10,12 +10,15 @@ use Rattle.ms_record.specs.declared.setting.Setting.{Setting}
 use Rattle.ms_record.specs.Settings.{IsSetting}
 use Rattle.ms_record.specs.Votes.{ChosenBy}
 use Rattle.ms_local.specs.declared.kept.Kept.{Kept}
-use Rattle.ms_local.specs.Desks.{DeskView}
+use Rattle.ms_local.specs.declared.deed.Deed.{Deed}
+use Rattle.ms_local.specs.declared.deed.Deed.TheVariants.{Kept as KeptDeed, Appended, Declared, Looked}
+use Rattle.ms_local.specs.declared.kept.Key.TheVariants.{State}
+use Rattle.ms_local.specs.Desks.{DeskView, HasKeptRound, OnTold, OnTold', round_of}
 use Rattle.ms_local.specs.Keeping.{HasRanges}
 use Rattle.ms_propose.specs.Acts.{with_round}
 use Rattle.ms_propose.specs.Going.{DeskBids}
-use Rattle.ms_local.specs.Desks.{OnTold, OnTold'}
-use Rattle.ms_local.specs.Truths.{IsStateAt, OwnHistory, TrueDeeds}
+use Rattle.ms_local.specs.Outside.{WhereTold}
+use Rattle.ms_local.specs.Truths.{IsStateAt, OwnHistory, TrueDeeds, last_kept}
 
 -- the setting is in its ranges, has the desk's services and its client, and is the one that is told, if one is
 pub record IsSettingOf (setting : Setting) (desk : DeskView) : Type 0 where
@@ -24,12 +27,24 @@ pub record IsSettingOf (setting : Setting) (desk : DeskView) : Type 0 where
   pub client : desk.client < setting.clients
   pub told : OnTold' desk (λ other. other ≡ setting)
 
--- the desk goes on, its own list by the offers of its deeds, each of which is true; of the state the round alone changes, and the
--- keeper has it but for a round that is greater, or less by the slack
+-- the deeds of bids: keepings of rounds, messages to the vote lists, declarations and looks
+abbrev pub IsBidDeed : Deed → Type 0
+IsBidDeed (KeptDeed round ok) = Unit {0}
+IsBidDeed (Appended service list message ok) = list.0 ≡ 0
+IsBidDeed (Declared offer) = Unit {0}
+IsBidDeed (Looked service sight ok) = Unit {0}
+IsBidDeed deed = ⊥
+
+-- the desk goes on by deeds of bids, its own list by their offers, and each deed is true; of the state the round alone changes, and the
+-- keeper has it but for its round: that is the state's at most, or above it by the slack at most; no less than the last that was
+-- kept, and than the keeper's before
 pub record Bids (slack : ℕ) (old new : DeskView) (before after : Kept) : Type 0 where
   pub effect : DeskBids old new
   pub history : OwnHistory old new
   pub truths : TrueDeeds old new
+  pub kinds : (deed : Deed) → Contains truths.deeds deed → IsBidDeed deed
+  pub kept_there : HasKeptRound new (last_kept 0 truths.deeds)
+  pub stays_kept : WhereTold old.keep.told ((r : ℕ) → round_of (old.keep.texts State) ≡ Some r → HasKeptRound new r)
   pub state : IsStateAt slack new after
   pub ranges : HasRanges after
   pub round : after ≡ with_round before after.round

@@ -9,7 +9,7 @@ ghost use Rattle.ms_local.specs.Rules.{Bidding};
 ghost use Rattle.ms_record.specs.declared.entry.Entry.{Entry};
 ghost use Rattle.ms_record.specs.Entries.{IsEntry};
 ghost use Rattle.ms_record.specs.Records.{IsPosition};
-ghost use Rattle.ms_propose.specs.Bidding.{BidBroken, BidMade, intent_of};
+ghost use Rattle.ms_propose.specs.Bidding.{BidHalted, BidMade, intent_of};
 ghost use Rattle.ms_propose.specs.Leaving.{Bids, IsSettingOf, Shows, slack_of};
 ghost use Rattle.ms_local.specs.Desks.{OnTold'};
 ghost use Rattle.ms_propose.specs.TrueBids.{IsSeated};
@@ -62,9 +62,9 @@ pub(crate) fn one_bid<W: Work + Drop, K: Keeper + Drop, L: Link<FoldClosed> + Dr
     requires own { (e : Entry) → want ≡ Some e → e.client ≡ desk.old.client }
     requires entry { (e : Entry) → want ≡ Some e → IsEntry e }
     ensures made { IfOk result (λ outcome. (s : Bidding) → s.top ≡ kept.old.round → length s.failed ≡ desk.old.services
-        → BidMade desk.old.client.0 desk.old.services position (ballot_of_round (kept.old.round + 1) desk.old.client) (intent_of want voters.now) desk.old.deeds desk.new.deeds s kept.new.round outcome) }
+        → BidMade desk.old.client.0 desk.old.services (ballot_of_round (kept.old.round + 1) desk.old.client) (intent_of want voters.now position) desk.old.deeds desk.new.deeds s kept.new.round outcome) }
     ensures broken { OnErr result ((s : Bidding) → s.top ≡ kept.old.round → length s.failed ≡ desk.old.services
-        → BidBroken desk.old.client.0 desk.old.services (intent_of want voters.now) desk.old.deeds desk.new.deeds s kept.new.round) }
+        → BidHalted desk.old.client.0 desk.old.services (intent_of want voters.now position) desk.old.deeds desk.new.deeds s kept.new.round) }
     ensures shows { IfOk result (λ outcome. Shows (desk_view W.sees K.sees L.sees desk.old) (desk_view W.sees K.sees L.sees desk.new) voters.now position outcome) }
     ensures leaves { Bids (slack_of result) (desk_view W.sees K.sees L.sees desk.old) (desk_view W.sees K.sees L.sees desk.new) kept.old kept.new }
     ensures desk { IsDesk (desk_view W.sees K.sees L.sees desk.new) }
