@@ -9,9 +9,10 @@ use Rattle.ms_bid.specs.declared.act.Act.{Act}
 use Rattle.ms_bid.specs.declared.bid.Bid.{Bid}
 use Rattle.ms_record.specs.declared.sight.Sight.{Sight}
 use Rattle.ms_bid.specs.Ends.{AreBelow}
-use Rattle.ms_bid.specs.Bids.{IsBid, IsPending, IsFresh, OnlySeen, OnlyOf}
+use Rattle.ms_bid.specs.Shown.{sight_at}
+use Rattle.ms_bid.specs.Bids.{IsBid, IsPending, IsFresh, IsUnseen, OnlySeen, OnlyOf, SeenAreFree, seen_of}
 
-all_one : {X : Type 0} (n : ℕ) (x : X) (s : ℕ) → get_or (replicate n x) s x ≡ x
+pub all_one : {X : Type 0} (n : ℕ) (x : X) (s : ℕ) → get_or (replicate n x) s x ≡ x
 all_one n x s =
     elim (cases_lt s n) [
       | inl l ↦ get_or-replicate n s x x l
@@ -26,6 +27,14 @@ none_seen n voters s sight is = absurd (let q : None ≡ Some sight = sym (all_o
 
 none_marked : (n : ℕ) (voters : List ℕ) → OnlyOf (replicate n false) voters
 none_marked n voters s is = absurd (let q : false ≡ true = sym (all_one n false s) ∙ is in cc)
+
+-- where nothing was seen in this round of looks, no service that was looked at failed
+pub free_of_none : (seen : List (Option Sight)) (failed : List Bool) → seen ≡ replicate 16 None → SeenAreFree seen failed
+free_of_none seen failed none s sight is = absurd (let q : None ≡ Some sight = sym (all_one 16 None s) ∙ (ap (λ (l : List (Option Sight)). sight_at l s) (sym none) ∙ is) in cc)
+
+pub seen_now : (offer : Option Entry) (first second : List (Option Sight)) → IsUnseen offer first second → seen_of offer first second ≡ replicate 16 None
+seen_now None first second h = h.0
+seen_now (Some e) first second h = h
 
 pub fresh_bid : (voters : List ℕ) (position : ℕ) (ballot : Ballot) (want : Option Entry) (b : Bid) → IsFresh voters position ballot want b → IsPosition position → IsBallot ballot
     → ((e : Entry) → want ≡ Some e → e.client ≡ ballot.client) → AreBelow voters 16 → IsBid b
@@ -42,6 +51,7 @@ fresh_bid voters position ballot want b f place range own below = record {
     first_of = subst (λ (looks : List (Option Sight)). OnlySeen looks b.voters) (sym f.first_is) (none_seen 16 b.voters);
     second_of = subst (λ (looks : List (Option Sight)). OnlySeen looks b.voters) (sym f.second_is) (none_seen 16 b.voters);
     failed_of = subst (λ (flags : List Bool). OnlyOf flags b.voters) (sym f.failed_is) (none_marked 16 b.voters);
+    seen_free = subst (λ (o : Option Entry). SeenAreFree (seen_of o b.first_looks b.second_looks) b.failed) (sym f.offer_is) (free_of_none b.first_looks b.failed f.first_is);
   };
   pending = subst (λ (a : Act). IsPending b a) (sym f.act_is) (ap (λ (x : Ballot). x.round) (sym f.ballot_is), f.offer_is, (f.first_is, f.second_is));
 }

@@ -5,9 +5,9 @@ ghost use Rattle.ms_bid.specs.declared.act.Act.TheVariants.{End};
 ghost use Rattle.ms_bid.specs.declared.act.Outcome.TheVariants.{KeepFault};
 ghost use Rattle.ms_record.specs.declared.sight.Sight.{Sight};
 ghost use Rattle.ms_bid.specs.declared.sight.Sought.TheVariants.{Promise};
-ghost use Rattle.ms_bid.specs.Shown.{Most, GreatestUpTo};
-ghost use Rattle.ms_bid.specs.Ends.{AllSent, AllSeen};
-ghost use Rattle.ms_bid.specs.Bids.{IsFramed, IsBid, IsPending, IsOfferOf, HasNothing, IsLooked, Lacks, IsUnseen, NoSecond, MayFault, message_of, sought_of, seen_of, with_sight, fits, noted, acts_left, left_at, rounds_left};
+ghost use Rattle.ms_bid.specs.Shown.{Most, GreatestUpTo, sight_at};
+ghost use Rattle.ms_bid.specs.Ends.{AllSent, AllSeen, flag_at};
+ghost use Rattle.ms_bid.specs.Bids.{IsFramed, IsBid, IsPending, IsOfferOf, HasNothing, IsLooked, Lacks, IsUnseen, NoSecond, NoneSeenFrom, MayFault, message_of, sought_of, seen_of, with_sight, fits, noted, acts_left, left_at, rounds_left};
 
 use crate::act::{Act, Answer, Outcome, WrongAnswer};
 use crate::flags::Flags;
@@ -70,6 +70,7 @@ impl Bid {
 
     /// What follows where there is nothing to settle.
     fn settled(&self) -> Act
+        requires framed { IsFramed self.now }
         requires looked { IsLooked self.now }
         requires nothing { HasNothing self.now }
         ensures pending { IsPending self.now result }
@@ -170,6 +171,7 @@ impl Bid {
         requires sent { AllSent self.old.sent self.old.failed self.old.voters 16 }
         requires seen { AllSeen (seen_of self.old.offer self.old.first_looks self.old.second_looks) self.old.failed self.old.voters from }
         requires no_second { NoSecond self.old.offer self.old.second_looks }
+        requires unseen { NoneSeenFrom (seen_of self.old.offer self.old.first_looks self.old.second_looks) from }
         ensures same { self.new ≡ record self.old { act = self.new.act } }
         ensures bid { IsBid self.new }
         ensures left { acts_left self.new ≤ rounds_left self.old.offer + (16 - from) }
@@ -208,6 +210,7 @@ impl Bid {
     fn note_failed(&mut self, service: ServiceId)
         requires framed { IsFramed self.old }
         requires votes { Contains self.old.voters service.0 }
+        requires unseen { sight_at (seen_of self.old.offer self.old.first_looks self.old.second_looks) service.0 ≡ None }
         ensures is { self.new ≡ record self.old { failed = slice_set self.old.failed service.0 true } }
         ensures framed { IsFramed self.new }
         ensures sent { (n : ℕ) → AllSent self.old.sent self.old.failed self.old.voters n → AllSent self.old.sent self.new.failed self.old.voters n }
@@ -232,10 +235,13 @@ impl Bid {
     fn note_sight(&mut self, service: ServiceId, sight: Sight)
         requires framed { IsFramed self.old }
         requires votes { Contains self.old.voters service.0 }
+        requires free { flag_at self.old.failed service.0 ≡ false }
         ensures is { self.new ≡ with_sight self.old self.old.offer service.0 sight }
         ensures framed { IsFramed self.new }
         ensures looks { AllSeen (seen_of self.old.offer self.old.first_looks self.old.second_looks) self.old.failed self.old.voters service.0
             → AllSeen (seen_of self.old.offer self.new.first_looks self.new.second_looks) self.old.failed self.old.voters (service.0 + 1) }
+        ensures unseen { NoneSeenFrom (seen_of self.old.offer self.old.first_looks self.old.second_looks) service.0
+            → NoneSeenFrom (seen_of self.old.offer self.new.first_looks self.new.second_looks) (service.0 + 1) }
         ensures no_second { NoSecond self.old.offer self.old.second_looks → NoSecond self.old.offer self.new.second_looks }
     {
         match self.offer {
@@ -247,6 +253,7 @@ impl Bid {
     /// Notes that the offer was declared.
     fn note_offer(&mut self, entry: Entry)
         requires framed { IsFramed self.old }
+        requires unseen { self.old.second_looks ≡ replicate 16 None }
         ensures is { self.new ≡ record self.old { offer = Some entry; sent = replicate 16 false } }
         ensures framed { IsFramed self.new }
     {
