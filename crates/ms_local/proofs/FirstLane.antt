@@ -4,11 +4,12 @@ use Rattle.std.specs.Option.{option_map, option_map_or}
 use Rattle.std.proofs.lemmas.List.{length-map, length-set, map-set}
 use Rattle.std.proofs.lemmas.Option.{get_or_from_slice_get, slice_get-get_or, slice_get-map}
 use Rattle.ms_base.specs.Counts.{Rose}
+use Rattle.ms_base.specs.Places.{set_here, set_there}
 use Rattle.ms_core.specs.Asking.{MayAsk}
 use Rattle.ms_core.specs.Views.{IsClosed, configuration, log_in, offers_told}
 use Rattle.ms_ken.specs.Known.{Known, TableId}
 use Rattle.ms_ken.specs.Lists.{MayFollow, list_at}
-use Rattle.ms_link.specs.Composing.{added_known, stays_on, stays_self}
+use Rattle.ms_link.specs.Composing.{stays_on, stays_self}
 use Rattle.ms_link.specs.Links.{IsOnBoard, Learns, LinkView, Lists, MayAdd, Stays, Tells, log_known}
 use Rattle.ms_link.specs.declared.fault.LinkError.{LinkError}
 use Rattle.ms_link.specs.declared.fault.LinkError.TheVariants as errors
@@ -19,7 +20,7 @@ use Rattle.ms_record.specs.declared.setting.Setting.{Setting}
 use Rattle.ms_record.specs.Items.{events_of}
 use Rattle.ms_record.specs.Logs.{texts_in}
 use Rattle.ms_local.specs.Calls.{AppendsAt, DeskCalls, IsSupportedAt, ListsAt}
-use Rattle.ms_local.specs.Desks.{DeskView, IsDesk, LanesStay, LinksStay, faults_at, with_deed}
+use Rattle.ms_local.specs.Desks.{DeskView, IsDesk, LanesStay, LinksStay, faults_at, first_link, with_deed}
 use Rattle.ms_local.specs.declared.deed.Deed.{Deed}
 use Rattle.ms_local.specs.declared.desk.Lane.{Lane}
 
@@ -81,11 +82,6 @@ set_first : (lanes : List (List LinkView)) (links new : List LinkView) → slice
 set_first [] links new first = absurd cc
 set_first (x ∷ lanes) links new first = refl
 
-set_got : (links : List LinkView) (s : ℕ) (l new : LinkView) → slice_get links s ≡ Some l → slice_get (slice_set links s new) s ≡ Some new
-set_got [] s l new at = absurd cc
-set_got (x ∷ links) zero l new at = refl
-set_got (x ∷ links) (suc s) l new at = set_got links s l new at
-
 faults_of : (links : List LinkView) (s : ℕ) (l : LinkView) → slice_get links s ≡ Some l → option_map_or (λ (link : LinkView). link.faults) (slice_get links s) 0 ≡ l.faults
 faults_of links s l at = ap (λ (o : Option LinkView). option_map_or (λ (link : LinkView). link.faults) o 0) at
 
@@ -100,13 +96,20 @@ called desk pass links s link = record desk { pass = pass; lanes = with_link des
 faults_now : (desk : DeskView) (pass : Known Item) (links : List LinkView) (s : ℕ) (l new : LinkView) → slice_get desk.lanes 0 ≡ Some links → slice_get links s ≡ Some l → faults_at (called desk pass links s new) s ≡ new.faults
 faults_now desk pass links s l new first at =
     ap (λ (own : List LinkView). option_map_or (λ (link : LinkView). link.faults) (slice_get own s) 0) (set_first desk.lanes links (slice_set links s new) first)
-    ∙ faults_of (slice_set links s new) s new (set_got links s l new at)
+    ∙ faults_of (slice_set links s new) s new (set_here links s new l at)
 
 rose_at : (desk : DeskView) (pass : Known Item) (links : List LinkView) (s : ℕ) (l new : LinkView) → slice_get desk.lanes 0 ≡ Some links → slice_get links s ≡ Some l → Rose l.faults new.faults
     → Rose (faults_at desk s) (faults_at (called desk pass links s new) s)
 rose_at desk pass links s l new first at rose =
     subst (λ (n : ℕ). Rose n (faults_at (called desk pass links s new) s)) (sym (faults_then desk links s l first at))
     (subst (λ (n : ℕ). Rose l.faults n) (sym (faults_now desk pass links s l new first at)) rose)
+
+-- the links to other services are as before
+pub others_called : (desk : DeskView) (pass : Known Item) (links : List LinkView) (s : ℕ) (new : LinkView) → slice_get desk.lanes 0 ≡ Some links
+    → (k : ℕ) → k ≢ s → first_link (called desk pass links s new) k ≡ first_link desk k
+others_called desk pass links s new first k other =
+    ap (λ (own : List LinkView). slice_get own k) (set_first desk.lanes links (slice_set links s new) first)
+    ∙ (set_there links s k new other ∙ ap (λ (own : List LinkView). slice_get own k) (sym (get_or_from_slice_get desk.lanes 0 links [] first)))
 
 -- ---- what the answers say
 
@@ -125,7 +128,9 @@ pub appends_at : (desk : DeskView) (pass : Known Item) (links : List LinkView) (
 appends_at desk pass links s l new event (Ok u) h first at is = λ setting known.
     let tells : l.lists ≡ true = (h.telling setting known).lists 0 links first s l at in
     let here : l.service ≡ s = ((h.lanes 0 links first).lead s l at).to_service in
-    subst (λ (n : ℕ). Contains (events_of (list_at pass.lists n)) event) here (added_known l desk.pass pass event (is tells))
+    let added = is tells in
+    (added.place, subst (λ (n : ℕ). length (list_at desk.pass.lists n) ≤ added.place) here added.behind,
+        subst (λ (n : ℕ). slice_get (list_at pass.lists n) added.place ≡ Some (Log event)) here added.stands)
 appends_at desk pass links s l new event (Err errors.Failed) h first at is = rose_at desk pass links s l new first at is
 appends_at desk pass links s l new event (Err (errors.Stale floor)) h first at is = is
 appends_at desk pass links s l new event (Err errors.NoMemory) h first at is = is
@@ -178,9 +183,9 @@ many_links {L} sees desk lanes lane h are first =
 -- ---- what is noted
 
 -- the deed that was noted first gives place to another
-pub noted_as : (old mid : DeskView) (first deed : Deed) (deeds : List Deed) → DeskCalls (with_deed old first) mid → deeds ≡ old.deeds ++ deed ∷ [] → DeskCalls (with_deed old deed) (record mid { deeds = deeds })
-noted_as old mid first deed deeds h e = record { same = λ i. record (h.same i) { deeds = e i }; pass = h.pass; lanes = h.lanes }
+pub noted_as : (s : ℕ) (old mid : DeskView) (first deed : Deed) (deeds : List Deed) → DeskCalls s (with_deed old first) mid → deeds ≡ old.deeds ++ deed ∷ [] → DeskCalls s (with_deed old deed) (record mid { deeds = deeds })
+noted_as s old mid first deed deeds h e = record { same = λ i. record (h.same i) { deeds = e i }; pass = h.pass; lanes = h.lanes; others = h.others }
 
 -- it is taken back
-pub not_noted : (old mid : DeskView) (first : Deed) (deeds : List Deed) → DeskCalls (with_deed old first) mid → deeds ≡ old.deeds → DeskCalls old (record mid { deeds = deeds })
-not_noted old mid first deeds h e = record { same = λ i. record (h.same i) { deeds = e i }; pass = h.pass; lanes = h.lanes }
+pub not_noted : (s : ℕ) (old mid : DeskView) (first : Deed) (deeds : List Deed) → DeskCalls s (with_deed old first) mid → deeds ≡ old.deeds → DeskCalls s old (record mid { deeds = deeds })
+not_noted s old mid first deeds h e = record { same = λ i. record (h.same i) { deeds = e i }; pass = h.pass; lanes = h.lanes; others = h.others }

@@ -6,7 +6,7 @@ use Rattle.ms_local.specs.Calls.{AppendsAt, DeskCalls}
 use Rattle.ms_local.specs.Desks.{IsDesk, desk_view}
 use Rattle.ms_record.specs.declared.log.LogEvent.TheVariants.{Rec}
 use Rattle.ms_local.proofs.DeskLaws.{call_stays, on_board}
-use Rattle.ms_local.proofs.FirstLane.{appends_at, asks_at, first_seen, lanes_called, lanes_seen, lanes_then, link_seen, many_links, may_add, with_link}
+use Rattle.ms_local.proofs.FirstLane.{appends_at, asks_at, first_seen, lanes_called, lanes_seen, lanes_then, link_seen, many_links, others_called, may_add, with_link}
 use Rattle.ms_local.proofs.calling.append_text.Goals as goal
 
 pub index_mut-link-requires : goal.index_mut-link-requires
@@ -83,11 +83,12 @@ returns-clause-effect g c =
     link_seen sees lane.links.items c.args.service.0 link (let lt = c.requires.service in omega arith) c.index_mut-link.ensures.value in
     let new = sees c.append.new.self in
     let then = lanes_then sees lanes lane (record { links = with_item lane.links c.args.service.0 c.append.new.self }) c.args.service.0 c.append.new.self refl in
-    subst (λ (own : List (List LinkView)). DeskCalls desk (record desk { pass = c.append.new.pass; lanes = own })) (sym then)
+    subst (λ (own : List (List LinkView)). DeskCalls c.args.service.0 desk (record desk { pass = c.append.new.pass; lanes = own })) (sym then)
     (record {
       same = refl;
       pass = c.append.ensures.pass;
       lanes = lanes_called (lanes_seen sees lanes) (map sees lane.links.items) c.args.service.0 (sees link) new first at c.append.ensures.link;
+      others = others_called desk c.append.new.pass (map sees lane.links.items) c.args.service.0 new first;
     })
 
 pub returns-clause-desk : goal.returns-clause-desk

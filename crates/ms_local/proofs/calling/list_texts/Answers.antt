@@ -5,7 +5,7 @@ use Rattle.std.specs.Vec.{with_item}
 use Rattle.ms_local.specs.Calls.{DeskCalls, ListsAt}
 use Rattle.ms_local.specs.Desks.{IsDesk, desk_view}
 use Rattle.ms_local.proofs.DeskLaws.{call_stays, on_board}
-use Rattle.ms_local.proofs.FirstLane.{first_seen, lanes_called, lanes_seen, lanes_then, link_seen, lists_at, many_links, with_link}
+use Rattle.ms_local.proofs.FirstLane.{first_seen, lanes_called, lanes_seen, lanes_then, link_seen, lists_at, many_links, others_called, with_link}
 use Rattle.ms_local.proofs.calling.list_texts.Goals as goal
 
 pub index_mut-link-requires : goal.index_mut-link-requires
@@ -62,11 +62,12 @@ returns-clause-effect g c =
     link_seen sees lane.links.items c.args.service.0 link (let lt = c.requires.service in omega arith) c.index_mut-link.ensures.value in
     let new = sees c.list.new.self in
     let then = lanes_then sees lanes lane (record { links = with_item lane.links c.args.service.0 c.list.new.self }) c.args.service.0 c.list.new.self refl in
-    subst (λ (own : List (List LinkView)). DeskCalls desk (record desk { pass = c.list.new.pass; lanes = own })) (sym then)
+    subst (λ (own : List (List LinkView)). DeskCalls c.args.service.0 desk (record desk { pass = c.list.new.pass; lanes = own })) (sym then)
     (record {
       same = refl;
       pass = c.list.ensures.pass;
       lanes = lanes_called (lanes_seen sees lanes) (map sees lane.links.items) c.args.service.0 (sees link) new first at c.list.ensures.link;
+      others = others_called desk c.list.new.pass (map sees lane.links.items) c.args.service.0 new first;
     })
 
 pub returns-clause-desk : goal.returns-clause-desk
