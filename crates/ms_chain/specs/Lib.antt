@@ -2,3 +2,6 @@ pub mod Lines
 pub mod LineInside
 pub mod Heard
 pub mod HeardInside
+pub mod Splits
+pub mod ChainInside
+pub mod Readings

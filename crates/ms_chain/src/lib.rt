@@ -1,5 +1,10 @@
 //! What a client keeps of the chain: its members, and what it has read of the vote lists.
 #![tactic(auto)]
 
+mod chain;
 mod heard;
+mod learning;
 mod line;
+mod split;
+
+pub use chain::Chain;
