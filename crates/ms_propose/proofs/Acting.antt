@@ -43,7 +43,7 @@ use Rattle.ms_local.specs.Keeping.{HasState, MayHaveState, WritesKept}
 use Rattle.ms_local.specs.Outside.{KeeperView, WhereTold}
 use Rattle.ms_propose.specs.declared.acts.Aim.{Aim}
 use Rattle.ms_propose.specs.Acts.{DoesAct, Halts, Leaves, MayDo, MayHaveKept, deed_of, kept_round, vote_list, with_round}
-use Rattle.ms_propose.specs.Composing.{keeps_self, lanes_self, votes_begin}
+use Rattle.ms_propose.proofs.Composing.{keeps_self, lanes_self, votes_begin}
 use Rattle.ms_propose.specs.Going.{DeskBids, KeepsObjects}
 use Rattle.ms_local.specs.Desks.{OnTold, faults_at}
 use Rattle.ms_local.specs.Calls.{DeskCalls}

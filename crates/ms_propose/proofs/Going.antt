@@ -43,9 +43,9 @@ use Rattle.ms_local.specs.Outside.{KeeperView, WhereTold}
 use Rattle.ms_local.specs.Rules.{shown_round}
 use Rattle.ms_local.specs.States.{kept_at}
 use Rattle.ms_propose.specs.declared.acts.Aim.{Aim}
-use Rattle.ms_propose.specs.Acts.{DoesAct, Halts, Leaves, MayDo, MayHaveKept, deed_of, kept_round, no_sight, vote_list, with_round}
+use Rattle.ms_propose.specs.Acts.{DoesAct, Halts, Leaves, MayDo, MayHaveKept, deed_of, kept_round, vote_list, with_round}
 use Rattle.ms_propose.specs.Bidding.{IsBidOf}
-use Rattle.ms_propose.specs.Composing.{bids_on, bids_self, deed_wider, sight_on}
+use Rattle.ms_propose.proofs.Composing.{round_is}
 use Rattle.ms_propose.specs.Going.{DeskBids}
 use Rattle.ms_local.specs.Desks.{OnTold, faults_at}
 use Rattle.ms_replay.specs.Looks.{IsInRange}
@@ -54,11 +54,6 @@ use Rattle.ms_local.specs.Truths.{IsStateAt, IsTrueDeed, IsTrueSight, OwnHistory
 use Rattle.ms_propose.proofs.Growing.{learnt, sent_there, true_declared, true_failed, true_seen, true_sent}
 
 -- ---- the state
-
--- the round that the kept text says, where it spells a state
-round_is : (text : Option (List ℕ)) (had : Kept) → state_of text ≡ Some had → round_of text ≡ Some had.round
-round_is None had e = absurd cc
-round_is (Some text) had e = ap (option_map (λ (kept : Kept). kept.round)) e
 
 pub may_keep : (desk : DeskView) (kept : Kept) (round : ℕ) → kept.round ≤ round → IsStateAt 0 desk kept → MayKeepRound desk round
 may_keep desk kept round low h told = let s = h told in (s.0.round, round_is (desk.keep.texts State) s.0 s.1, omega (arith, low, s.3))

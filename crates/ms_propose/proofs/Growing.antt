@@ -30,7 +30,7 @@ use Rattle.ms_record.specs.Logs.{vote_texts}
 use Rattle.ms_record.specs.Offers.{IsOffered}
 use Rattle.ms_record.specs.Reading.{record_at, votes_of, with_record}
 use Rattle.ms_record.specs.Settings.{origin_of}
-use Rattle.ms_propose.specs.Composing.{sight_on, votes_begin}
+use Rattle.ms_propose.proofs.Composing.{sight_on, votes_begin}
 use Rattle.ms_propose.specs.TrueBids.{AreListed, AreSent, AreTrue, HasOffer, IsNewest, IsSeated, IsTrueBid}
 use Rattle.ms_local.specs.Truths.{IsTrueSight}
 use Rattle.ms_propose.proofs.Truths.{shows_or_greater}

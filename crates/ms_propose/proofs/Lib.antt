@@ -1,3 +1,4 @@
+pub mod Composing
 pub mod Lengths
 pub mod Lists
 pub mod Offering

@@ -42,7 +42,7 @@ use Rattle.ms_local.specs.Rules.{Bidding, Intent}
 use Rattle.ms_propose.specs.declared.acts.Aim.{Aim}
 use Rattle.ms_propose.specs.Acts.{DoesAct, Halts, Leaves, MayDo, MayHaveKept, deed_of, kept_round, with_round}
 use Rattle.ms_propose.specs.Bidding.{BidBroken, BidMade, BidRuns, IsBidOf}
-use Rattle.ms_propose.specs.Composing.{bids_client, bids_on, bids_self, bids_services, history_on, history_self, told_back, truths_on, truths_self}
+use Rattle.ms_propose.proofs.Composing.{bids_client, bids_on, bids_self, bids_services, history_on, history_self, told_back, truths_on, truths_self}
 use Rattle.ms_propose.specs.Going.{DeskBids}
 use Rattle.ms_propose.specs.Leaving.{Bids, Shows, slack_of}
 use Rattle.ms_local.specs.Desks.{OnTold, OnTold'}

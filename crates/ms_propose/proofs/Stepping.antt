@@ -42,7 +42,7 @@ use Rattle.ms_local.specs.Desks.{DeskView, IsDesk, KnowsTold}
 use Rattle.ms_propose.specs.declared.acts.Aim.{Aim}
 use Rattle.ms_propose.specs.Acts.{DoesAct, Leaves, deed_of, vote_list}
 use Rattle.ms_propose.specs.Bidding.{IsBidOf}
-use Rattle.ms_propose.specs.Composing.{bids_client, bids_on, bids_self, deed_wider, history_on, sight_on, told_back, votes_begin}
+use Rattle.ms_propose.proofs.Composing.{bids_client, bids_on, bids_self, deed_wider, history_on, sight_on, told_back, votes_begin}
 use Rattle.ms_propose.specs.Going.{DeskBids}
 use Rattle.ms_local.specs.Desks.{OnTold, faults_at}
 use Rattle.ms_replay.specs.Looks.{IsInRange}

@@ -2,5 +2,4 @@ pub mod Going
 pub mod Acts
 pub mod Bidding
 pub mod TrueBids
-pub mod Composing
 pub mod Leaving

@@ -1,7 +1,7 @@
 -- How what bids leave of a desk goes together.
 use Rattle.std.proofs.Common.{◌≡◌, ◌≢◌, ℕ, zero, suc, ◌⊎◌, inl, inr, ◌+◌, ◌≤◌, true, false, Bool, List, [], ◌∷◌, ◌++◌, length, Option, Some, None, refl, sym, ap, ◌∙◌, subst, append_assoc, arith, slice_get, slice_index_or}
 use Rattle.std.specs.Prelude.{Contains}
-use Rattle.std.specs.Option.{option_map_or}
+use Rattle.std.specs.Option.{option_map, option_map_or}
 use Rattle.std.proofs.lemmas.List.{append-nil}
 use Rattle.std.proofs.lemmas.List.Elements.{Contains-append_cases, Contains-append_left}
 use mathlib.Core.List.{IsPrefix}
@@ -11,7 +11,7 @@ use Rattle.ms_core.specs.Views.{View, configuration, log_in, owner_of_client, vo
 use Rattle.ms_ken.specs.Lists.{list_at, Begins}
 use Rattle.ms_ken.specs.Prefixes.{prefix_trans}
 use Rattle.ms_ken.specs.Rows.{begins_self, begins_trans}
-use Rattle.ms_link.specs.Composing.{rose_before, rose_on, stays_on, stays_self}
+use Rattle.ms_link.specs.Composing.{rose_before, rose_on, stays_on as link_on, stays_self as link_self}
 use Rattle.ms_link.specs.Links.{LinkView, Stays}
 use Rattle.ms_record.specs.declared.ballot.Ballot.{Ballot}
 use Rattle.ms_record.specs.declared.item.Item.{Item}
@@ -23,19 +23,23 @@ use Rattle.ms_record.specs.declared.sight.Sight.{Sight}
 use Rattle.ms_record.specs.Growing.{texts_append, votes_grow}
 use Rattle.ms_record.specs.Logs.{texts_in}
 use Rattle.ms_local.specs.declared.deed.Deed.{Deed}
+use Rattle.ms_local.specs.declared.deed.Deed.TheVariants as deeds
 use Rattle.ms_local.specs.declared.deed.Deed.TheVariants.{KeepFailed, Kept as KeptDeed, StateKept, Appended, Declared, Looked, Listed}
 use Rattle.ms_local.specs.declared.deed.Message.TheVariants.{Vote, Ref}
-use Rattle.ms_local.specs.Desks.{DeskView, IsDesk, KnowsTold, LanesStay, LinksStay}
+use Rattle.ms_local.specs.declared.kept.Kept.{Kept}
+use Rattle.ms_local.specs.declared.kept.Key.TheVariants.{State}
+use Rattle.ms_local.specs.Desks.{DeskView, HasFault, HasKeptRound, IsDesk, KnowsTold, LanesStay, LinksStay, first_link, faults_at, round_of}
+use Rattle.ms_local.specs.Keeping.{state_of}
 use Rattle.ms_local.specs.Outside.{KeeperView, WhereTold}
 use Rattle.ms_propose.specs.Going.{DeskBids, KeepsObjects}
-use Rattle.ms_local.specs.Desks.{first_link, faults_at}
-use Rattle.ms_local.specs.Truths.{IsTrueDeed, IsTrueSight, OwnHistory, TrueDeeds, TrueLooks, ballot_at, offers_of}
+use Rattle.ms_propose.specs.Leaving.{IsBidDeed}
+use Rattle.ms_local.specs.Truths.{IsStateAt, IsTrueDeed, IsTrueSight, MayFail, OwnHistory, TrueDeeds, TrueLooks, ballot_at, last_kept, offers_of}
 use Rattle.ms_local.specs.Calls.{message_text}
 
 -- ---- links
 
 links_self : (links : List LinkView) → LinksStay links links
-links_self links = record { all = refl; each = λ place link at. (link, at, stays_self link) }
+links_self links = record { all = refl; each = λ place link at. (link, at, link_self link) }
 
 pub lanes_self : (lanes : List (List LinkView)) → LanesStay lanes lanes
 lanes_self lanes = record { all = refl; each = λ place links at. (links, at, links_self links) }
@@ -46,7 +50,7 @@ links_on a b c h k = record {
   each = λ place link at.
       let x = k.each place link at in
       let y = h.each place x.0 x.1 in
-      (y.0, y.1, stays_on y.0 x.0 link y.2 x.2);
+      (y.0, y.1, link_on y.0 x.0 link y.2 x.2);
 }
 
 pub lanes_on : (a b c : List (List LinkView)) → LanesStay a b → LanesStay b c → LanesStay a c
@@ -169,22 +173,41 @@ sight_on low lower high higher below above k b s x h = record {
 
 -- ---- deeds
 
+-- a fault between two moments is one between an earlier and a later one
+fault_wider : (a b c d : DeskView) → DeskBids a b → DeskBids c d → (s : ℕ) → HasFault b c s → HasFault a d s
+fault_wider a b c d h k s t = rose_before (faults_at a s) (faults_at b s) (faults_at d s) (faults_later a b s h.lanes) (rose_on (faults_at b s) (faults_at c s) (faults_at d s) t (faults_later c d s k.lanes))
+
+keeper_wider : (a b c d : DeskView) → DeskBids a b → DeskBids c d → Rose b.keep.faults c.keep.faults → Rose a.keep.faults d.keep.faults
+keeper_wider a b c d h k t = rose_before a.keep.faults b.keep.faults d.keep.faults h.keep.later (rose_on b.keep.faults c.keep.faults d.keep.faults t k.keep.later)
+
+work_wider : (a b c d : DeskView) → DeskBids a b → DeskBids c d → Rose b.work.faults c.work.faults → Rose a.work.faults d.work.faults
+work_wider a b c d h k t =
+    let before : b.work.faults ≡ a.work.faults = ap (λ (x : DeskView). x.work.faults) h.same in
+    let after : d.work.faults ≡ c.work.faults = ap (λ (x : DeskView). x.work.faults) k.same in
+    subst (λ (n : ℕ). Rose n d.work.faults) before (subst (λ (n : ℕ). Rose b.work.faults n) (sym after) t)
+
+call_wider : (a b c d : DeskView) → DeskBids a b → DeskBids c d → (s : ℕ) (ok : Bool) (floor : Option ℕ) → MayFail b c s ok floor → MayFail a d s ok floor
+call_wider a b c d h k s true floor t = tt
+call_wider a b c d h k s false (Some floor) t = tt
+call_wider a b c d h k s false None t = fault_wider a b c d h k s t
+
 -- a deed that is true between two moments is true between an earlier and a later one
 pub deed_wider : (a b c d : DeskView) → DeskBids a b → DeskBids c d → (deed : Deed) → IsTrueDeed b c deed → IsTrueDeed a d deed
 deed_wider a b c d h k (Appended service list message true) t = λ setting told.
     text_stays c.pass.lists d.pass.lists k.more service.0 list.0 (message_text message) (t setting (h.told setting told))
-deed_wider a b c d h k (Appended service list message false) t =
-    rose_before (faults_at a service.0) (faults_at b service.0) (faults_at d service.0) (faults_later a b service.0 h.lanes)
-    (rose_on (faults_at b service.0) (faults_at c service.0) (faults_at d service.0) t (faults_later c d service.0 k.lanes))
-deed_wider a b c d h k (Looked service sight false) t =
-    rose_before (faults_at a service.0) (faults_at b service.0) (faults_at d service.0) (faults_later a b service.0 h.lanes)
-    (rose_on (faults_at b service.0) (faults_at c service.0) (faults_at d service.0) t (faults_later c d service.0 k.lanes))
-deed_wider a b c d h k (Listed service list from count false) t =
-    rose_before (faults_at a service.0) (faults_at b service.0) (faults_at d service.0) (faults_later a b service.0 h.lanes)
-    (rose_on (faults_at b service.0) (faults_at c service.0) (faults_at d service.0) t (faults_later c d service.0 k.lanes))
-deed_wider a b c d h k (KeptDeed round false) t = rose_before a.keep.faults b.keep.faults d.keep.faults h.keep.later (rose_on b.keep.faults c.keep.faults d.keep.faults t k.keep.later)
-deed_wider a b c d h k (StateKept false) t = rose_before a.keep.faults b.keep.faults d.keep.faults h.keep.later (rose_on b.keep.faults c.keep.faults d.keep.faults t k.keep.later)
-deed_wider a b c d h k KeepFailed t = rose_before a.keep.faults b.keep.faults d.keep.faults h.keep.later (rose_on b.keep.faults c.keep.faults d.keep.faults t k.keep.later)
+deed_wider a b c d h k (Appended service list message false) t = fault_wider a b c d h k service.0 t
+deed_wider a b c d h k (Looked service sight false) t = (t.0, fault_wider a b c d h k service.0 t.1)
+deed_wider a b c d h k (Listed service list from count false) t = (t.0, fault_wider a b c d h k service.0 t.1)
+deed_wider a b c d h k (KeptDeed round false) t = keeper_wider a b c d h k t
+deed_wider a b c d h k (StateKept false) t = keeper_wider a b c d h k t
+deed_wider a b c d h k KeepFailed t = keeper_wider a b c d h k t
+deed_wider a b c d h k (deeds.Asked service generation name present ok floor) t = call_wider a b c d h k service.0 ok floor t
+deed_wider a b c d h k (deeds.Put service generation name ok floor) t = call_wider a b c d h k service.0 ok floor t
+deed_wider a b c d h k (deeds.Got service generation name found ok floor) t = call_wider a b c d h k service.0 ok floor t
+deed_wider a b c d h k (deeds.Dropped service generation ok) t = call_wider a b c d h k service.0 ok None t
+deed_wider a b c d h k (deeds.Scanned false) t = work_wider a b c d h k t
+deed_wider a b c d h k (deeds.Wrote path false) t = work_wider a b c d h k t
+deed_wider a b c d h k (deeds.Removed path false) t = work_wider a b c d h k t
 deed_wider a b c d h k deed t = tt
 
 pub looks_wider : (a b c d : DeskView) → DeskBids a b → DeskBids c d → (position round : ℕ) (deeds : List Deed) → TrueLooks b c position round deeds → TrueLooks a d position round deeds
@@ -243,3 +266,54 @@ history_on a b c client h k =
       own = own ∙ (ap (λ (xs : List Item). xs ++ offers_of k.deeds) h.own ∙ (append_assoc (list_at a.pass.lists (owner_of_client a.client)) (offers_of h.deeds) (offers_of k.deeds)
           ∙ ap (λ (xs : List Item). list_at a.pass.lists (owner_of_client a.client) ++ xs) (sym (offers_more h.deeds k.deeds))));
     }
+
+-- ---- kinds of deeds
+
+pub kinds_self : (deed : Deed) → Contains [] deed → IsBidDeed deed
+kinds_self deed is = absurd (omega (arith, is.1))
+
+pub kinds_on : (xs ys : List Deed) → ((deed : Deed) → Contains xs deed → IsBidDeed deed) → ((deed : Deed) → Contains ys deed → IsBidDeed deed) → (deed : Deed) → Contains (xs ++ ys) deed → IsBidDeed deed
+kinds_on xs ys h k deed is = elim (Contains-append_cases xs ys deed is) [ | inl x ↦ h deed x | inr y ↦ k deed y ]
+
+-- ---- the kept round
+
+-- the round that the kept text says, where it spells a state
+pub round_is : (text : Option (List ℕ)) (had : Kept) → state_of text ≡ Some had → round_of text ≡ Some had.round
+round_is None had e = absurd cc
+round_is (Some text) had e = ap (option_map (λ (kept : Kept). kept.round)) e
+
+-- the round of the one desk's keeper is kept at the other
+abbrev pub StaysKept : DeskView → DeskView → Type 0
+StaysKept old new = WhereTold old.keep.told ((r : ℕ) → round_of (old.keep.texts State) ≡ Some r → HasKeptRound new r)
+
+pub kept_lower : (desk : DeskView) (low high : ℕ) → low ≤ high → HasKeptRound desk high → HasKeptRound desk low
+kept_lower desk low high le h told = let k = h told in (k.0, k.1, omega (arith, le, k.2))
+
+pub kept_later : (old new : DeskView) (r : ℕ) → new.keep.told ≡ old.keep.told → StaysKept old new → HasKeptRound old r → HasKeptRound new r
+kept_later old new r same stays h told = let was = sym same ∙ told in let k = h was in kept_lower new r k.0 k.2 (stays was k.0 k.1) told
+
+pub stays_self : (desk now : DeskView) → now.keep ≡ desk.keep → StaysKept desk now
+stays_self desk now same told r is there = (r, ap (λ (k : KeeperView). round_of (k.texts State)) same ∙ is, omega arith)
+
+pub stays_on : (a b c : DeskView) → c.keep.told ≡ b.keep.told → StaysKept a b → StaysKept b c → StaysKept a c
+stays_on a b c same h k told r is = kept_later b c r same k (h told r is)
+
+kept_append : (xs ys : List Deed) (r : ℕ) → last_kept r (xs ++ ys) ≡ last_kept (last_kept r xs) ys
+kept_append [] ys r = refl
+kept_append (KeptDeed next true ∷ xs) ys r = kept_append xs ys next
+kept_append (deed ∷ xs) ys r = kept_append xs ys r
+
+-- among the deeds is a keeping with ok, or what was kept before them is the last
+kept_cases : (deeds : List Deed) (r : ℕ) → (last_kept r deeds ≡ last_kept 0 deeds) ⊎ (last_kept r deeds ≡ r)
+kept_cases [] r = inr refl
+kept_cases (KeptDeed next true ∷ deeds) r = inl refl
+kept_cases (deed ∷ deeds) r = kept_cases deeds r
+
+pub kept_there_self : (slack : ℕ) (desk : DeskView) (kept : Kept) → IsStateAt slack desk kept → HasKeptRound desk (last_kept 0 [])
+kept_there_self slack desk kept h told = let s = h told in (s.0.round, round_is (desk.keep.texts State) s.0 s.1, omega arith)
+
+pub kept_there_on : (b c : DeskView) (xs ys : List Deed) → c.keep.told ≡ b.keep.told → StaysKept b c → HasKeptRound b (last_kept 0 xs) → HasKeptRound c (last_kept 0 ys) → HasKeptRound c (last_kept 0 (xs ++ ys))
+kept_there_on b c xs ys same stays h k = subst (HasKeptRound c) (sym (kept_append xs ys 0)) (elim (kept_cases ys (last_kept 0 xs)) [
+  | inl last ↦ subst (HasKeptRound c) (sym last) k
+  | inr before ↦ subst (HasKeptRound c) (sym before) (kept_later b c (last_kept 0 xs) same stays h)
+])
