@@ -1,6 +1,7 @@
 -- What one act leaves of a desk.
-use Rattle.std.proofs.Common.{◌≡◌, ◌≢◌, ℕ, zero, suc, ◌+◌, ◌<◌, ◌≤◌, ◌==◌, Bool, true, false, cond, List, [], ◌∷◌, ◌++◌, Option, Some, None, ◌⊎◌, inl, inr, Result, Ok, Err, refl, sym, ap, ◌∙◌, subst, length, max, arith, drop}
+use Rattle.std.proofs.Common.{◌≡◌, ◌≢◌, ℕ, zero, suc, ◌+◌, ◌<◌, ◌≤◌, ◌==◌, Bool, true, false, cond, List, [], ◌∷◌, ◌++◌, Option, Some, None, ◌⊎◌, inl, inr, Result, Ok, Err, refl, sym, ap, ◌∙◌, subst, length, max, arith, drop, slice_get}
 use Rattle.std.specs.Prelude.{Contains}
+use Rattle.std.proofs.lemmas.List.Elements.{Contains-append_right, filter_map-append}
 use Rattle.ms_base.specs.Counts.{Rose}
 use Rattle.ms_base.specs.declared.names.Name.{Name}
 use Rattle.ms_base.specs.declared.names.ServiceId.{ServiceId}
@@ -15,12 +16,12 @@ use Rattle.ms_core.specs.Asking.{MayOffer}
 use Rattle.ms_core.specs.Views.{View, IsClosed, log_in, owner_of_client, votes_told}
 use Rattle.ms_ken.specs.Known.{Known, TableId}
 use Rattle.ms_ken.specs.Lists.{list_at, Begins, with_item, with_told}
-use Rattle.ms_ken.specs.Prefixes.{prefix_self}
+use Rattle.ms_ken.specs.Prefixes.{get_splits, prefix_self}
 use Rattle.ms_ken.specs.Rows.{begins_self, begins_told}
 use Rattle.ms_link.specs.Composing.{learns_self}
 use Rattle.ms_link.specs.Links.{Learns as PassLearns, LinkView}
 use Rattle.ms_record.specs.declared.item.Item.{Item}
-use Rattle.ms_record.specs.declared.item.Item.TheVariants.{Offer}
+use Rattle.ms_record.specs.declared.item.Item.TheVariants.{Log, Offer}
 use Rattle.ms_record.specs.declared.log.ListId.{ListId}
 use Rattle.ms_record.specs.declared.log.LogEvent.{LogEvent}
 use Rattle.ms_record.specs.declared.log.LogEvent.TheVariants.{Rec, Put, Drop}
@@ -31,6 +32,7 @@ use Rattle.ms_record.specs.declared.record.Record.TheVariants.{Prepare, Accept}
 use Rattle.ms_record.specs.Votes.{ballot_of}
 use Rattle.ms_record.specs.declared.setting.Setting.{Setting}
 use Rattle.ms_record.specs.declared.sight.Sight.{Sight}
+use Rattle.ms_record.specs.Items.{event_in, events_of}
 use Rattle.ms_record.specs.Logs.{texts_in, vote_texts}
 use Rattle.ms_record.specs.Reading.{votes_of}
 use Rattle.ms_record.specs.Records.{record_text}
@@ -46,7 +48,7 @@ use Rattle.ms_propose.specs.Acts.{DoesAct, Halts, Leaves, MayDo, MayHaveKept, de
 use Rattle.ms_propose.proofs.Composing.{keeps_self, lanes_self, votes_begin}
 use Rattle.ms_propose.specs.Going.{DeskBids, KeepsObjects}
 use Rattle.ms_local.specs.Desks.{OnTold, faults_at}
-use Rattle.ms_local.specs.Calls.{DeskCalls}
+use Rattle.ms_local.specs.Calls.{AppendsAt, DeskCalls}
 use Rattle.ms_replay.specs.Looks.{IsInRange}
 use Rattle.ms_local.specs.Truths.{IsTrueSight}
 
@@ -69,9 +71,17 @@ text_there (Put generation name other ∷ log) text (suc k, l, e) = text_there l
 text_there (Drop floor ∷ log) text (zero, l, e) = absurd (let q : Drop floor ≡ Rec vote_list text = e in cc)
 text_there (Drop floor ∷ log) text (suc k, l, e) = text_there log text (k, omega (arith, l), e)
 
+-- the event of an item is one of the log
+event_there : (items : List Item) (place : ℕ) (event : LogEvent) → slice_get items place ≡ Some (Log event) → Contains (events_of items) event
+event_there items place event at =
+    let p = get_splits items place (Log event) at in
+    subst (λ (xs : List Item). Contains (events_of xs) event) p.3
+    (subst (λ (log : List LogEvent). Contains log event) (sym (filter_map-append event_in p.0 (Log event ∷ p.1)))
+    (Contains-append_right (events_of p.0) (event ∷ events_of p.1) event (0, omega arith, refl)))
+
 -- ---- calls on the services
 
-module _ (old called : DeskView) (noted after : List Deed) (calls : DeskCalls (record old { deeds = noted }) called) (told : (setting : Setting) → KnowsTold old setting → KnowsTold called setting) where
+module _ (old called : DeskView) (at : ℕ) (noted after : List Deed) (calls : DeskCalls at (record old { deeds = noted }) called) (told : (setting : Setting) → KnowsTold old setting → KnowsTold called setting) where
   keep_same : called.keep ≡ old.keep
   keep_same = ap (λ (d : DeskView). d.keep) calls.same
 
@@ -95,14 +105,14 @@ module _ (old called : DeskView) (noted after : List Deed) (calls : DeskCalls (r
     keep = subst (λ (k : KeeperView). KeepsObjects old.keep k) (sym keep_same) (keeps_self old.keep);
   }
 
-  pub sent_ok : (aim : Aim) (service : ServiceId) (message : Record) (kept : Kept) → after ≡ old.deeds ++ deed_of (Send service message) Sent ∷ [] → OnTold old (Contains (log_in called.pass.lists service.0) (Rec vote_list (record_text message)))
+  pub sent_ok : (aim : Aim) (service : ServiceId) (message : Record) (kept : Kept) → after ≡ old.deeds ++ deed_of (Send service message) Sent ∷ [] → AppendsAt old called service.0 (Rec vote_list (record_text message)) (Ok tt)
       → DoesAct aim (Send service message) Sent old (record called { deeds = after }) kept kept
   sent_ok aim service message kept is there = record {
     fits_it = refl;
     deed = is;
     round = refl;
     goes = calls_go;
-    leaves = (calls.pass, keep_same, λ setting known. text_there (log_in called.pass.lists service.0) (record_text message) (there setting known));
+    leaves = (calls.pass, keep_same, λ setting known. let e = there setting known in text_there (log_in called.pass.lists service.0) (record_text message) (event_there (list_at called.pass.lists service.0) e.0 (Rec vote_list (record_text message)) e.2));
   }
 
   pub sent_failed : (aim : Aim) (service : ServiceId) (message : Record) (kept : Kept) → after ≡ old.deeds ++ deed_of (Send service message) Failed ∷ [] → Rose (faults_at old service.0) (faults_at called service.0)

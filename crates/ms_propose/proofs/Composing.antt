@@ -29,10 +29,11 @@ use Rattle.ms_local.specs.declared.deed.Message.TheVariants.{Vote, Ref}
 use Rattle.ms_local.specs.declared.kept.Kept.{Kept}
 use Rattle.ms_local.specs.declared.kept.Key.TheVariants.{State}
 use Rattle.ms_local.specs.Desks.{DeskView, HasFault, HasKeptRound, IsDesk, KnowsTold, LanesStay, LinksStay, first_link, faults_at, round_of}
-use Rattle.ms_local.specs.Keeping.{state_of}
+use Rattle.ms_local.specs.Keeping.{HasRanges, state_of}
 use Rattle.ms_local.specs.Outside.{KeeperView, WhereTold}
+use Rattle.ms_propose.specs.Acts.{with_round}
 use Rattle.ms_propose.specs.Going.{DeskBids, KeepsObjects}
-use Rattle.ms_propose.specs.Leaving.{IsBidDeed}
+use Rattle.ms_propose.specs.Leaving.{Bids, IsBidDeed}
 use Rattle.ms_local.specs.Truths.{IsStateAt, IsTrueDeed, IsTrueSight, MayFail, OwnHistory, TrueDeeds, TrueLooks, ballot_at, last_kept, offers_of}
 use Rattle.ms_local.specs.Calls.{message_text}
 
@@ -317,3 +318,38 @@ kept_there_on b c xs ys same stays h k = subst (HasKeptRound c) (sym (kept_appen
   | inl last ↦ subst (HasKeptRound c) (sym last) k
   | inr before ↦ subst (HasKeptRound c) (sym before) (kept_later b c (last_kept 0 xs) same stays h)
 ])
+
+-- ---- what bids leave
+
+-- no deed was done
+pub leaves_quiet : (old new : DeskView) (kept : Kept) (slack : ℕ) → DeskBids old new → new.deeds ≡ old.deeds → list_at new.pass.lists (owner_of_client old.client) ≡ list_at old.pass.lists (owner_of_client old.client)
+    → StaysKept old new → IsStateAt slack new kept → HasRanges kept → Bids slack old new kept kept
+unfolding truths_self
+leaves_quiet old new kept slack goes deeds own stays state ranges = record {
+  effect = goes;
+  history = history_self old new deeds own;
+  truths = truths_self old new deeds;
+  kinds = kinds_self;
+  kept_there = kept_there_self slack new kept state;
+  stays_kept = stays;
+  state = state;
+  ranges = ranges;
+  round = refl;
+}
+
+pub leaves_self : (desk : DeskView) (kept : Kept) (slack : ℕ) → IsStateAt slack desk kept → HasRanges kept → Bids slack desk desk kept kept
+leaves_self desk kept slack state ranges = leaves_quiet desk desk kept slack (bids_self desk) refl refl (stays_self desk desk refl) state ranges
+
+pub leaves_on : (a b c : DeskView) (before mid after : Kept) (slack last : ℕ) → Bids slack a b before mid → Bids last b c mid after → Bids last a c before after
+unfolding truths_on
+leaves_on a b c before mid after slack last h k = record {
+  effect = bids_on a b c h.effect k.effect;
+  history = history_on a b c (bids_client a b h.effect) h.history k.history;
+  truths = truths_on a b c h.effect k.effect h.truths k.truths;
+  kinds = kinds_on h.truths.deeds k.truths.deeds h.kinds k.kinds;
+  kept_there = kept_there_on b c h.truths.deeds k.truths.deeds k.effect.keep.told k.stays_kept h.kept_there k.kept_there;
+  stays_kept = stays_on a b c k.effect.keep.told h.stays_kept k.stays_kept;
+  state = k.state;
+  ranges = k.ranges;
+  round = k.round ∙ ap (λ (x : Kept). with_round x after.round) h.round;
+}

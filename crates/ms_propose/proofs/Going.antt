@@ -39,13 +39,13 @@ use Rattle.ms_local.specs.declared.kept.Kept.{Kept}
 use Rattle.ms_local.specs.declared.kept.Key.TheVariants.{State}
 use Rattle.ms_local.specs.Desks.{AreWithin, DeskView, HasKeptRound, IsDesk, KnowsTold, MayKeepRound, round_of}
 use Rattle.ms_local.specs.Keeping.{HasRanges, HasState, MayHaveState, state_in, state_of}
-use Rattle.ms_local.specs.Outside.{KeeperView, WhereTold}
+use Rattle.ms_local.specs.Outside.{KeeperView, KeptTexts, WhereTold}
 use Rattle.ms_local.specs.Rules.{shown_round}
 use Rattle.ms_local.specs.States.{kept_at}
 use Rattle.ms_propose.specs.declared.acts.Aim.{Aim}
 use Rattle.ms_propose.specs.Acts.{DoesAct, Halts, Leaves, MayDo, MayHaveKept, deed_of, kept_round, vote_list, with_round}
 use Rattle.ms_propose.specs.Bidding.{IsBidOf}
-use Rattle.ms_propose.proofs.Composing.{round_is}
+use Rattle.ms_propose.proofs.Composing.{StaysKept, kept_lower, leaves_quiet, round_is, stays_self}
 use Rattle.ms_propose.specs.Going.{DeskBids}
 use Rattle.ms_local.specs.Desks.{OnTold, faults_at}
 use Rattle.ms_replay.specs.Looks.{IsInRange}
@@ -111,6 +111,34 @@ state_failed old new kept same may h told = by (may (sym same ∙ told)) where
   by : MayHaveState (with_round kept (kept.round + 1)) old.keep.texts new.keep.texts → (had : Kept) × (state_in new.keep.texts ≡ Some had) × (kept ≡ record had { round = kept.round }) × (had.round ≤ kept.round + 1)
   by (inl stays) = let s = h (sym same ∙ told) in (s.0, ap state_in stays ∙ s.1, s.2, omega (arith, s.3))
   by (inr is) = (with_round kept (kept.round + 1), is.state, refl, omega arith)
+
+-- the keeper's round is at most the state's
+pub round_low : (slack : ℕ) (desk : DeskView) (kept : Kept) (r : ℕ) → desk.keep.told ≡ true → IsStateAt slack desk kept → round_of (desk.keep.texts State) ≡ Some r → r ≤ kept.round + slack
+round_low slack desk kept r told h is =
+    let s = h told in
+    let same : r ≡ s.0.round = (let q : Some r ≡ Some s.0.round = sym is ∙ round_is (desk.keep.texts State) s.0 s.1 in cc) in
+    omega (arith, same, s.3)
+
+-- what was kept before the keeping that failed stays kept
+pub stays_failed : (old new : DeskView) (kept : Kept) → new.keep.told ≡ old.keep.told → WhereTold old.keep.told (MayHaveState (with_round kept (kept.round + 1)) old.keep.texts new.keep.texts) → IsStateAt 0 old kept → StaysKept old new
+stays_failed old new kept same may h told r is = by (may told) where
+  low : r ≤ kept.round
+  low = let l = round_low 0 old kept r told h is in omega (arith, l)
+
+  by : MayHaveState (with_round kept (kept.round + 1)) old.keep.texts new.keep.texts → HasKeptRound new r
+  by (inl stays) there = (r, ap (λ (t : KeptTexts). round_of (t State)) stays ∙ is, omega arith)
+  by (inr has) there = (kept.round + 1, round_is (new.keep.texts State) (with_round kept (kept.round + 1)) has.state, omega (arith, low))
+
+pub stays_halts : (act : Act) (old new : DeskView) (kept : Kept) → ((r : ℕ) → act ≡ Keep r → r ≡ kept.round + 1) → new.keep.told ≡ old.keep.told → MayHaveKept act old new kept → IsStateAt 0 old kept → StaysKept old new
+stays_halts (Keep r) old new kept next same may h = stays_failed old new kept same (subst (λ (k : ℕ). WhereTold old.keep.told (MayHaveState (with_round kept k) old.keep.texts new.keep.texts)) (next r refl) may) h
+stays_halts (Send s m) old new kept next same may h = stays_self old new may
+stays_halts (Look s) old new kept next same may h = stays_self old new may
+stays_halts (Declare o) old new kept next same may h = stays_self old new may
+stays_halts (End o) old new kept next same may h = stays_self old new may
+
+-- a greater round was kept
+pub stays_above : (old new : DeskView) (kept : Kept) (round : ℕ) → kept.round ≤ round → IsStateAt 0 old kept → HasKeptRound new round → StaysKept old new
+stays_above old new kept round low h there told r is = kept_lower new r round (let l = round_low 0 old kept r told h is in omega (arith, l, low)) there
 
 pub state_wider : (desk : DeskView) (kept : Kept) → IsStateAt 0 desk kept → IsStateAt 1 desk kept
 state_wider desk kept h told = let s = h told in (s.0, s.1, s.2, omega (arith, s.3))

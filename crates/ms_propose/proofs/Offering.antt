@@ -105,8 +105,8 @@ module _ (n : ℕ) (few : n ≤ 16) (voters : List ℕ) (below : (s : ℕ) → C
   }
 
   -- what may be offered by the machine may be offered by the rules
-  pub offer_rule : (want : Option Entry) (entry : Entry) → BidOffers sights voters want entry → IsOfferOf (record { want = want; voters = voters }) (take n sights) entry
-  offer_rule want entry o = record { majority = promised_majority o.most; entry_is = go o.best o.greatest o.entry_is } where
+  pub offer_rule : (want : Option Entry) (position : ℕ) (entry : Entry) → BidOffers sights voters want entry → IsOfferOf (record { want = want; voters = voters; position = position }) (take n sights) entry
+  offer_rule want position entry o = record { majority = promised_majority o.most; entry_is = go o.best o.greatest o.entry_is } where
     go : (best : Option Vote) → GreatestUpTo sights (length sights) best → IsOfBest best want entry
         → IsOfGreatest (promised_by voters (take n sights)) (λ s. best_in (sight_at (take n sights) s)) entry ⊎ IsWanted (promised_by voters (take n sights)) (λ s. best_in (sight_at (take n sights) s)) want entry
     go (Some v) g e =

@@ -41,23 +41,24 @@ use Rattle.ms_local.specs.Keeping.{HasRanges}
 use Rattle.ms_local.specs.Rules.{Bidding, Intent}
 use Rattle.ms_propose.specs.declared.acts.Aim.{Aim}
 use Rattle.ms_propose.specs.Acts.{DoesAct, Halts, Leaves, MayDo, MayHaveKept, deed_of, kept_round, with_round}
-use Rattle.ms_propose.specs.Bidding.{BidBroken, BidMade, BidRuns, IsBidOf}
-use Rattle.ms_propose.proofs.Composing.{bids_client, bids_on, bids_self, bids_services, history_on, history_self, told_back, truths_on, truths_self}
+use Rattle.ms_propose.specs.Bidding.{BidHalted, BidMade, BidRuns, IsBidOf}
+use Rattle.ms_propose.proofs.Composing.{bids_client, bids_on, bids_services, history_on, kept_there_self, leaves_on, leaves_quiet, told_back}
 use Rattle.ms_propose.specs.Going.{DeskBids}
-use Rattle.ms_propose.specs.Leaving.{Bids, Shows, slack_of}
+use Rattle.ms_propose.specs.Leaving.{Bids, IsBidDeed, Shows, slack_of}
 use Rattle.ms_local.specs.Desks.{OnTold, OnTold'}
 use Rattle.ms_propose.specs.TrueBids.{HasEntries, HasOffer, IsSeated, IsTrueBid}
-use Rattle.ms_local.specs.Truths.{IsStateAt, IsTrueDeed, OwnHistory, TrueDeeds, TrueLooks, ballot_at}
-use Rattle.ms_propose.proofs.Going.{keeper_stays, kept_stays, may_keep, newest_told, ranges_on, ranges_round, round_kept, state_failed, state_halts, state_on, state_wider}
+use Rattle.ms_local.specs.Truths.{IsStateAt, IsTrueDeed, OwnHistory, TrueDeeds, ballot_at}
+use Rattle.ms_propose.proofs.Going.{keeper_stays, kept_stays, may_keep, newest_told, ranges_on, ranges_round, round_kept, state_failed, state_halts, state_on, stays_above, stays_failed, stays_halts}
 use Rattle.ms_propose.proofs.Growing.{none_seen, true_fresh}
-use Rattle.ms_propose.proofs.Mirroring.{begins, bid_on, broken_in, broken_not, kept_not, made_of, no_fault, not_keep, runs_on}
-use Rattle.ms_propose.proofs.Stepping.{BidTruths, entries_on, history_step, only, own_list, true_on, truths_all, truths_step}
+use Rattle.ms_propose.proofs.Mirroring.{IsUnsent, begins, bid_on, broken_in, broken_not, kept_not, made_of, no_fault, not_keep, runs_on, stays_unsent, unsent_fresh}
+use Rattle.ms_propose.proofs.Stepping.{BidTruths, bid_leaves, entries_on, history_step, only, own_list, true_on, truths_step}
 use Rattle.ms_propose.proofs.Truths.{ViewLaws, never_unlisted, newest_of, nothing_chosen, true_chosen, true_justified, true_next}
 
 -- what a bid may begin with
 pub record IsBidder (intent : Intent) (aim : Aim) (first : DeskView) (before : Kept) : Type 0 where
   pub desk : IsDesk first
   pub position : IsPosition aim.position
+  pub placed : intent.position ≡ aim.position
   pub ballot : aim.ballot ≡ ballot_at first.client (before.round + 1)
   pub last : before.round < LAST_NUMBER
   pub voters : (s : ℕ) → Contains intent.voters s → s < first.services
@@ -80,6 +81,7 @@ pub record BidGoes (intent : Intent) (aim : Aim) (first now : DeskView) (before 
   pub truths : BidTruths first now aim
   pub told : OnTold' first (λ setting. IsTrueBid setting first.pass.lists now.pass.lists b)
   pub entries : HasEntries b
+  pub unsent : IsUnsent b
   pub no_fault : b.act ≢ End KeepFault
 
 -- each record has one spelling, and that is read
@@ -110,6 +112,14 @@ same_but_act b c r answer act_is answer_is is =
 pub list_there : (desk : DeskView) → IsDesk desk → length desk.pass.lists ≡ desk.pass.board.words → owner_of_client desk.client < length desk.pass.lists
 list_there desk h wide = let words : desk.pass.board.words ≡ 33 = ap (λ (t : TableId). t.words) h.board ∙ h.owners in omega (arith, wide, words, h.client)
 
+-- memory ran out in an act
+act_halts : (act : Act) (old new : DeskView) (before after : Kept) → old.pass.word ≡ Some (owner_of_client old.client) → ((r : ℕ) → act ≡ Keep r → r ≡ before.round + 1) → Halts act old new before after
+    → IsStateAt 0 old before → HasRanges before → Bids 1 old new before after
+act_halts act old new before after word next d state ranges =
+    subst (λ (k : Kept). Bids 1 old new before k) (sym d.round)
+    (leaves_quiet old new before 1 d.goes d.deed (own_list old.pass new.pass old.client word d.pass) (stays_halts act old new before next d.goes.keep.told d.keep state)
+    (state_halts act old new before next d.goes.keep.told d.keep state) ranges)
+
 module _ (intent : Intent) (aim : Aim) (first : DeskView) (before : Kept) (h : IsBidder intent aim first before) where
   mine : aim.ballot.client.0 ≡ first.client
   mine = ap (λ (b : Ballot). b.client.0) h.ballot
@@ -130,7 +140,7 @@ module _ (intent : Intent) (aim : Aim) (first : DeskView) (before : Kept) (h : I
   first_kept now kept b c desk d fresh same less real =
       let round : kept.round ≡ aim.ballot.round = ap (λ (k : Kept). k.round) d.round ∙ sym next_round in
       let deeds : now.deeds ≡ first.deeds ++ KeptDeed aim.ballot.round true ∷ [] = d.deed ∙ ap (λ (r : ℕ). first.deeds ++ KeptDeed r true ∷ []) (sym next_round) in
-      let runs = begins first.client first.services h.desk.few_services intent aim.position aim.ballot first.deeds now.deeds before.round b c fresh mine next_round deeds same in
+      let runs = begins first.client first.services h.desk.few_services intent aim.position aim.ballot first.deeds now.deeds before.round b c fresh h.placed mine next_round deeds same in
       record {
         desk = desk;
         bid = record {
@@ -138,6 +148,7 @@ module _ (intent : Intent) (aim : Aim) (first : DeskView) (before : Kept) (h : I
           ballot_is = ap (λ (x : Bid). x.ballot) same ∙ fresh.ballot_is;
           want_is = ap (λ (x : Bid). x.want) same ∙ fresh.want_is;
           voters_are = ap (λ (x : Bid). x.voters) same ∙ fresh.voters_are;
+          placed = h.placed;
           begun = less;
         };
         runs = subst (λ (r : ℕ). BidRuns first.client first.services intent first.deeds now.deeds before.round r c) (sym round) runs;
@@ -158,42 +169,52 @@ module _ (intent : Intent) (aim : Aim) (first : DeskView) (before : Kept) (h : I
           looks = λ s x at. absurd (none_seen 16 s x (subst (λ (l : List (Option Sight)). sight_at l s ≡ Some x) fresh.first_is at));
           offer = λ e is. absurd (let q : None ≡ Some e = sym fresh.offer_is ∙ is in cc);
         });
+        unsent = unsent_fresh c.sent c.act (ap (λ (x : Bid). x.sent) same ∙ fresh.sent_is);
         no_fault = real;
       }
 
-  first_truths : (now : DeskView) (deed : Deed) → now.deeds ≡ first.deeds ++ deed ∷ [] → IsTrueDeed first now deed → ((k r : ℕ) → TrueLooks first now k r (deed ∷ [])) → TrueDeeds first now
-  first_truths now deed is t looks = record { deeds = deed ∷ []; grows = is; each = λ d c. subst (λ (x : Deed). IsTrueDeed first now x) (only deed d c) t; looks = looks }
+  -- the keeping failed
+  failed_true : (now : DeskView) (kept : Kept) → DoesAct aim (Keep (before.round + 1)) Failed first now before kept → TrueDeeds first now
+  failed_true now kept d = record {
+    deeds = KeptDeed (before.round + 1) false ∷ [];
+    grows = d.deed;
+    each = λ deed c. subst (λ (x : Deed). IsTrueDeed first now x) (only (KeptDeed (before.round + 1) false) deed c) d.leaves.1;
+    looks = λ k r. (k, tt);
+  }
+
+  failed_leaves : (now : DeskView) (kept : Kept) → DoesAct aim (Keep (before.round + 1)) Failed first now before kept → Bids 1 first now before before
+  unfolding failed_true
+  failed_leaves now kept d =
+      let may : MayHaveKept (Keep (before.round + 1)) first now before = subst (λ (k : Kept). MayHaveKept (Keep (before.round + 1)) first now k) d.round d.leaves.2 in
+      let state : IsStateAt 1 now before = state_failed first now before d.goes.keep.told may h.state in
+      record {
+        effect = d.goes;
+        history = record { deeds = KeptDeed (before.round + 1) false ∷ []; grows = d.deed; own = ap (λ (k : Known Item). list_at k.lists (owner_of_client first.client)) d.leaves.0 ∙ sym (append-nil (list_at first.pass.lists (owner_of_client first.client))) };
+        truths = failed_true now kept d;
+        kinds = λ deed c. subst IsBidDeed (only (KeptDeed (before.round + 1) false) deed c) tt;
+        kept_there = kept_there_self 1 now before state;
+        stays_kept = stays_failed first now before d.goes.keep.told may h.state;
+        state = state;
+        ranges = h.ranges;
+        round = refl;
+      }
 
   pub first_failed : (now : DeskView) (kept : Kept) → DoesAct aim (Keep (before.round + 1)) Failed first now before kept
       → Bids 1 first now before kept × Shows first now intent.voters aim.position KeepFault
-      × ((s : Bidding) → s.top ≡ before.round → length s.failed ≡ first.services → BidMade first.client first.services aim.position aim.ballot intent first.deeds now.deeds s kept.round KeepFault)
+      × ((s : Bidding) → s.top ≡ before.round → length s.failed ≡ first.services → BidMade first.client first.services aim.ballot intent first.deeds now.deeds s kept.round KeepFault)
   first_failed now kept d =
       let same : kept ≡ before = d.round in (
-        record {
-          effect = d.goes;
-          history = record { deeds = KeptDeed (before.round + 1) false ∷ []; grows = d.deed; own = ap (λ (k : Known Item). list_at k.lists (owner_of_client first.client)) d.leaves.0 ∙ sym (append-nil (list_at first.pass.lists (owner_of_client first.client))) };
-          truths = first_truths now (KeptDeed (before.round + 1) false) d.deed d.leaves.1 (λ k r. (k, tt));
-          state = subst (λ (k : Kept). IsStateAt 1 now k) (sym same) (state_failed first now before d.goes.keep.told (subst (λ (k : Kept). MayHaveKept (Keep (before.round + 1)) first now k) same d.leaves.2) h.state);
-          ranges = subst HasRanges (sym same) h.ranges;
-          round = same ∙ ap (with_round before) (sym (ap (λ (k : Kept). k.round) same));
-        },
+        subst (λ (k : Kept). Bids 1 first now before k) (sym same) (failed_leaves now kept d),
         d.leaves.1,
         λ s top wide.
-            subst (λ (k : Kept). BidMade first.client first.services aim.position aim.ballot intent first.deeds now.deeds s k.round KeepFault) (sym same)
-            (kept_not first.client first.services intent aim.position aim.ballot first.deeds now.deeds before.round next_round (d.deed ∙ ap (λ (r : ℕ). first.deeds ++ KeptDeed r false ∷ []) (sym next_round)) s top wide),
+            subst (λ (k : Kept). BidMade first.client first.services aim.ballot intent first.deeds now.deeds s k.round KeepFault) (sym same)
+            (kept_not first.client first.services intent aim.ballot first.deeds now.deeds before.round next_round (d.deed ∙ ap (λ (r : ℕ). first.deeds ++ KeptDeed r false ∷ []) (sym next_round)) s top wide),
       )
 
   pub first_halts : (now : DeskView) (kept : Kept) → Halts (Keep (before.round + 1)) first now before kept
-      → Bids 1 first now before kept × ((s : Bidding) → s.top ≡ before.round → length s.failed ≡ first.services → BidBroken first.client first.services intent first.deeds now.deeds s kept.round)
+      → Bids 1 first now before kept × ((s : Bidding) → s.top ≡ before.round → length s.failed ≡ first.services → BidHalted first.client first.services intent first.deeds now.deeds s kept.round)
   first_halts now kept d = (
-    record {
-      effect = d.goes;
-      history = history_self first now d.deed (own_list first.pass now.pass first.client h.desk.word d.pass);
-      truths = truths_self first now d.deed;
-      state = subst (λ (k : Kept). IsStateAt 1 now k) (sym d.round) (state_failed first now before d.goes.keep.told d.keep h.state);
-      ranges = subst HasRanges (sym d.round) h.ranges;
-      round = d.round ∙ ap (with_round before) (sym (ap (λ (k : Kept). k.round) d.round));
-    },
+    act_halts (Keep (before.round + 1)) first now before kept h.desk.word (λ r e. let q : before.round + 1 ≡ r = cc e in sym q) d h.state h.ranges,
     λ s top wide. broken_not first.client first.services intent first.deeds now.deeds before.round kept.round d.deed (ap (λ (k : Kept). k.round) d.round) s top wide,
   )
 
@@ -276,7 +297,7 @@ module _ (intent : Intent) (aim : Aim) (first : DeskView) (before : Kept) (h : I
         record {
           desk = desk;
           bid = bid_on intent aim b c answer g.bid is less;
-          runs = runs_on first.client first.services h.desk.few_services intent aim first.deeds now.deeds new.deeds before.round kept.round later.round b c answer h.voters g.bid g.runs whole d.fits_it d.deed (ap (λ (k : Kept). k.round) d.round) is;
+          runs = runs_on first.client first.services h.desk.few_services intent aim first.deeds now.deeds new.deeds before.round kept.round later.round b c answer h.voters g.bid g.runs whole g.unsent d.fits_it d.deed (ap (λ (k : Kept). k.round) d.round) is;
           goes = goes;
           state = state_on aim b.act answer now new kept later no_keep d.round d.leaves g.state;
           ranges = ranges_on aim b.act answer now new kept later no_keep d.round d.leaves g.ranges;
@@ -288,37 +309,31 @@ module _ (intent : Intent) (aim : Aim) (first : DeskView) (before : Kept) (h : I
               subst (λ (x : Bid). IsTrueBid setting first.pass.lists new.pass.lists x) (sym is)
               (true_on setting first.pass.lists aim now new b answer c.act later (g.goes.told setting told) word wide whole g.bid.position_is g.bid.ballot_is bid_mine g.goes.more (g.told setting told) d.leaves again message_ranges no_keep);
           entries = subst HasEntries (sym is) (entries_on aim b b.act answer c.act now new later whole.pending d.leaves g.entries);
+          unsent = stays_unsent b c answer g.bid.begun whole g.unsent d.fits_it is less;
           no_fault = no_fault b.act answer c.act (λ r e f. no_keep r e) fault;
         }
 
+    bids : Bids 0 first now before kept
+    bids = bid_leaves first now before kept aim own_ballot g.goes g.history g.truths g.kept_there (stays_above first now before aim.ballot.round (omega (arith, next_round)) h.state g.kept_there) g.state g.ranges g.round
+
     -- memory ran out
     pub bid_halts : (new : DeskView) (later : Kept) → Halts b.act now new kept later
-        → Bids 1 first new before later × ((s : Bidding) → s.top ≡ before.round → length s.failed ≡ first.services → BidBroken first.client first.services intent first.deeds new.deeds s later.round)
+        → Bids 1 first new before later × ((s : Bidding) → s.top ≡ before.round → length s.failed ≡ first.services → BidHalted first.client first.services intent first.deeds new.deeds s later.round)
     bid_halts new later d = (
-      record {
-        effect = bids_on first now new g.goes d.goes;
-        history = history_on first now new client g.history (history_self now new d.deed (own_list now.pass new.pass now.client word d.pass));
-        truths = truths_on first now new g.goes d.goes (truths_all first now aim own_ballot g.truths) (truths_self now new d.deed);
-        state = subst (λ (k : Kept). IsStateAt 1 new k) (sym d.round) (state_halts b.act now new kept (λ r e. absurd (no_keep r e)) d.goes.keep.told d.keep g.state);
-        ranges = subst HasRanges (sym d.round) g.ranges;
-        round = d.round ∙ (g.round ∙ ap (with_round before) (sym (ap (λ (k : Kept). k.round) d.round)));
-      },
+      leaves_on first now new before kept later 0 1 bids (act_halts b.act now new kept later word (λ r e. absurd (no_keep r e)) d g.state g.ranges),
       λ s top wide.
-          subst (λ (r : ℕ). BidBroken first.client first.services intent first.deeds new.deeds s r) (sym (ap (λ (k : Kept). k.round) d.round))
-          (subst (λ (xs : List Deed). BidBroken first.client first.services intent first.deeds xs s kept.round) (sym d.deed)
+          subst (λ (r : ℕ). BidHalted first.client first.services intent first.deeds new.deeds s r) (sym (ap (λ (k : Kept). k.round) d.round))
+          (subst (λ (xs : List Deed). BidHalted first.client first.services intent first.deeds xs s kept.round) (sym d.deed)
           (broken_in first.client first.services h.desk.few_services intent first.deeds now.deeds before.round kept.round b whole.framed.failed_many g.runs s top wide)),
     )
 
     -- the end
     pub bid_ends : (outcome : Outcome) → b.act ≡ End outcome → IsDecidedTaken b → ((setting : Setting) → KnowsTold now setting → ViewLaws setting now.pass.lists)
         → Bids (slack_of (Ok outcome)) first now before kept × Shows first now intent.voters aim.position outcome
-        × ((s : Bidding) → s.top ≡ before.round → length s.failed ≡ first.services → BidMade first.client first.services aim.position aim.ballot intent first.deeds now.deeds s kept.round outcome)
+        × ((s : Bidding) → s.top ≡ before.round → length s.failed ≡ first.services → BidMade first.client first.services aim.ballot intent first.deeds now.deeds s kept.round outcome)
     bid_ends outcome is law laws = (leaves outcome real, shows outcome is, λ s top wide. made_of first.client first.services h.desk.few_services intent aim first.deeds now.deeds before.round kept.round b outcome g.bid whole g.runs is real s top wide) where
       real : outcome ≢ KeepFault
       real e = g.no_fault (is ∙ ap (λ (o : Outcome). End o) e)
-
-      bids : Bids 0 first now before kept
-      bids = record { effect = g.goes; history = g.history; truths = truths_all first now aim own_ballot g.truths; state = g.state; ranges = g.ranges; round = g.round }
 
       leaves : (o : Outcome) → o ≢ KeepFault → Bids (slack_of (Ok o)) first now before kept
       leaves KeepFault r = absurd (r refl)

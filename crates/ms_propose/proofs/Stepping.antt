@@ -38,16 +38,18 @@ use Rattle.ms_local.specs.declared.deed.Deed.{Deed}
 use Rattle.ms_local.specs.declared.deed.Deed.TheVariants.{Kept as KeptDeed, Appended, Looked, Declared as DeclaredDeed}
 use Rattle.ms_local.specs.declared.deed.Message.TheVariants.{Vote as VoteText}
 use Rattle.ms_local.specs.declared.kept.Kept.{Kept}
-use Rattle.ms_local.specs.Desks.{DeskView, IsDesk, KnowsTold}
+use Rattle.ms_local.specs.Desks.{DeskView, HasKeptRound, KnowsTold}
+use Rattle.ms_local.specs.Keeping.{HasRanges}
 use Rattle.ms_propose.specs.declared.acts.Aim.{Aim}
-use Rattle.ms_propose.specs.Acts.{DoesAct, Leaves, deed_of, vote_list}
+use Rattle.ms_propose.specs.Acts.{Leaves, deed_of, with_round}
 use Rattle.ms_propose.specs.Bidding.{IsBidOf}
-use Rattle.ms_propose.proofs.Composing.{bids_client, bids_on, bids_self, deed_wider, history_on, sight_on, told_back, votes_begin}
+use Rattle.ms_propose.proofs.Composing.{StaysKept, bids_self, deed_wider, sight_on, votes_begin}
 use Rattle.ms_propose.specs.Going.{DeskBids}
+use Rattle.ms_propose.specs.Leaving.{Bids, IsBidDeed}
 use Rattle.ms_local.specs.Desks.{OnTold, faults_at}
 use Rattle.ms_replay.specs.Looks.{IsInRange}
 use Rattle.ms_propose.specs.TrueBids.{HasEntries, IsTrueBid}
-use Rattle.ms_local.specs.Truths.{IsTrueDeed, IsTrueSight, OwnHistory, TrueDeeds, TrueLooks, ballot_at, offers_of}
+use Rattle.ms_local.specs.Truths.{IsStateAt, IsTrueDeed, IsTrueSight, OwnHistory, TrueDeeds, TrueLooks, ballot_at, last_kept, offers_of}
 use Rattle.ms_propose.proofs.Growing.{learnt, prefix_contains, sent_there, sight_set, true_declared, true_failed, true_seen, true_sent}
 
 -- ---- the own list
@@ -91,7 +93,7 @@ IsLookOf old new aim deed = Unit {0}
 pub record BidTruths (old now : DeskView) (aim : Aim) : Type 0 where
   pub rest : List Deed
   pub grows : now.deeds ≡ old.deeds ++ KeptDeed aim.ballot.round true ∷ rest
-  pub each : (deed : Deed) → Contains rest deed → IsTrueDeed old now deed × IsLookOf old now aim deed
+  pub each : (deed : Deed) → Contains rest deed → IsTrueDeed old now deed × IsLookOf old now aim deed × IsBidDeed deed
 
 look_wider : (a b c d : DeskView) (aim : Aim) → DeskBids a b → DeskBids c d → (deed : Deed) → IsLookOf b c aim deed → IsLookOf a d aim deed
 look_wider a b c d aim h k (KeptDeed round ok) t = absurd t
@@ -105,9 +107,18 @@ deed_true aim (Keep r) answer old new kept l other = absurd (other r refl)
 deed_true aim (Send s m) Sent old new kept l other = l.2
 deed_true aim (Send s m) Failed old new kept l other = l.2
 deed_true aim (Look s) (Seen x) old new kept l other = tt
-deed_true aim (Look s) Failed old new kept l other = l.2
+deed_true aim (Look s) Failed old new kept l other = (refl, l.2)
 deed_true aim (Declare offer) Declared old new kept l other = tt
 deed_true aim act answer old new kept l other = absurd l
+
+deed_kind : (aim : Aim) (act : Act) (answer : Answer) (old new : DeskView) (kept : Kept) → Leaves aim act answer old new kept → ((r : ℕ) → act ≡ Keep r → ⊥) → IsBidDeed (deed_of act answer)
+deed_kind aim (Keep r) answer old new kept l other = absurd (other r refl)
+deed_kind aim (Send s m) Sent old new kept l other = refl
+deed_kind aim (Send s m) Failed old new kept l other = refl
+deed_kind aim (Look s) (Seen x) old new kept l other = tt
+deed_kind aim (Look s) Failed old new kept l other = tt
+deed_kind aim (Declare offer) Declared old new kept l other = tt
+deed_kind aim act answer old new kept l other = absurd l
 
 message_at : (k : ℕ) (b : Ballot) (offer : Option Entry) (p : ℕ) (x : Ballot) → Prepare p x ≡ message_of k b offer → p ≡ k
 message_at k b None p x e = cc
@@ -137,11 +148,12 @@ truths_step aim b answer first old new kept h k at p is l other t = record {
   each = λ deed c. elim (Contains-append_cases t.rest (deed_of b.act answer ∷ []) deed c) [
     | inl was ↦ (
         let e = t.each deed was in
-        (deed_wider first first old new (bids_self first) k deed e.0, look_wider first first old new aim (bids_self first) k deed e.1)
+        (deed_wider first first old new (bids_self first) k deed e.0, look_wider first first old new aim (bids_self first) k deed e.1, e.2)
         )
-    | inr is_it ↦ subst (λ (d : Deed). IsTrueDeed first new d × IsLookOf first new aim d) (only (deed_of b.act answer) deed is_it) (
+    | inr is_it ↦ subst (λ (d : Deed). IsTrueDeed first new d × IsLookOf first new aim d × IsBidDeed d) (only (deed_of b.act answer) deed is_it) (
       deed_wider first old new new h (bids_self new) (deed_of b.act answer) (deed_true aim b.act answer old new kept l other),
       look_wider first old new new aim h (bids_self new) (deed_of b.act answer) (look_true aim b b.act answer old new kept at p l other),
+      deed_kind aim b.act answer old new kept l other,
     )
   ];
 }
@@ -160,7 +172,7 @@ all_looks old new aim mine (Looked service sight true ∷ deeds) h = (
 all_looks old new aim mine (deed ∷ deeds) h = all_looks old new aim mine deeds (λ d c. h d (suc c.0, omega (arith, c.1), c.2))
 
 -- the deeds of a bid are true
-pub truths_all : (old new : DeskView) (aim : Aim) → aim.ballot ≡ ballot_at old.client aim.ballot.round → BidTruths old new aim → TrueDeeds old new
+truths_all : (old new : DeskView) (aim : Aim) → aim.ballot ≡ ballot_at old.client aim.ballot.round → BidTruths old new aim → TrueDeeds old new
 truths_all old new aim mine t = record {
   deeds = KeptDeed aim.ballot.round true ∷ t.rest;
   grows = t.grows;
@@ -170,6 +182,32 @@ truths_all old new aim mine t = record {
   by : (deed : Deed) → Contains (KeptDeed aim.ballot.round true ∷ t.rest) deed → IsTrueDeed old new deed
   by deed (zero, l, e) = subst (λ (d : Deed). IsTrueDeed old new d) e tt
   by deed (suc k, l, e) = (t.each deed (k, omega (arith, l), e)).0
+
+kinds_all : (old new : DeskView) (aim : Aim) (t : BidTruths old new aim) (deed : Deed) → Contains (KeptDeed aim.ballot.round true ∷ t.rest) deed → IsBidDeed deed
+kinds_all old new aim t deed (zero, l, e) = subst IsBidDeed e tt
+kinds_all old new aim t deed (suc k, l, e) = (t.each deed (k, omega (arith, l), e)).2
+
+-- the round of a bid is the last that its deeds kept
+last_is : (old new : DeskView) (aim : Aim) (round : ℕ) (deeds : List Deed) → ((deed : Deed) → Contains deeds deed → IsLookOf old new aim deed) → last_kept round deeds ≡ round
+last_is old new aim round [] h = refl
+last_is old new aim round (KeptDeed next ok ∷ deeds) h = absurd (h (KeptDeed next ok) (zero, omega arith, refl))
+last_is old new aim round (deed ∷ deeds) h = last_is old new aim round deeds (λ d c. h d (suc c.0, omega (arith, c.1), c.2))
+
+-- what the deeds of a bid leave whose round was kept
+pub bid_leaves : (old new : DeskView) (before after : Kept) (aim : Aim) → aim.ballot ≡ ballot_at old.client aim.ballot.round → DeskBids old new → OwnHistory old new → BidTruths old new aim → HasKeptRound new aim.ballot.round
+    → StaysKept old new → IsStateAt 0 new after → HasRanges after → after ≡ with_round before after.round → Bids 0 old new before after
+unfolding truths_all
+bid_leaves old new before after aim mine goes history t there stays state ranges round = record {
+  effect = goes;
+  history = history;
+  truths = truths_all old new aim mine t;
+  kinds = kinds_all old new aim t;
+  kept_there = subst (HasKeptRound new) (sym (last_is old new aim aim.ballot.round t.rest (λ d c. (t.each d c).1))) there;
+  stays_kept = stays;
+  state = state;
+  ranges = ranges;
+  round = round;
+}
 
 -- ---- ranges of entries
 

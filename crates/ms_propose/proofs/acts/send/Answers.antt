@@ -21,6 +21,6 @@ returns-in-Ok-true-clause-acts g c =
     let called = desk_view g.W.Work.sees g.K.Keeper.sees g.L.Link.sees c.append_noted-sent.new.desk in
     let both = subst (λ (b : Bool). AppendsNoted old called c.args.service vote_list (Vote c.args.message) (Ok b)) c.in-Ok-true.field-0-test c.in-Ok-true.ensures.appends in
     let calls = both.1 in
-    sent_ok old called (old.deeds ++ Appended c.args.service vote_list (Vote c.args.message) true ∷ []) called.deeds calls
+    sent_ok old called c.args.service.0 (old.deeds ++ Appended c.args.service vote_list (Vote c.args.message) true ∷ []) called.deeds calls
     (λ setting known. c.configuration_stays.ensures.stays old.pass.lists called.pass.lists (Told setting) c.recall.ensures.closed calls.pass.more known)
     c.args.aim c.args.service c.args.message c.args.kept.now (ap (λ (d : DeskView). d.deeds) calls.same) both.0

@@ -20,11 +20,12 @@ keep_round-requires-clause-may g c =
     let sees = desk_view g.W.Work.sees g.K.Keeper.sees g.L.Link.sees in
     let first = sees c.args.desk.now in
     let before = c.args.kept.now in
-    let intent : Intent = intent_of c.args.want c.args.voters.now in
+    let intent : Intent = intent_of c.args.want c.args.voters.now c.args.position in
     let aim : Aim = record { position = c.args.position; ballot = record { round = before.round + 1; client = c.args.desk.now.client } } in
     let h : IsBidder intent aim first before = record {
       desk = c.requires.desk;
       position = c.requires.position;
+      placed = refl;
       ballot = refl;
       last = c.requires.round;
       voters = λ s v. omega (arith, c.requires.voters s v, c.requires.setting.services);
@@ -40,11 +41,12 @@ returns-in-Err-clause-broken g c =
     let sees = desk_view g.W.Work.sees g.K.Keeper.sees g.L.Link.sees in
     let first = sees c.args.desk.now in
     let before = c.args.kept.now in
-    let intent : Intent = intent_of c.args.want c.args.voters.now in
+    let intent : Intent = intent_of c.args.want c.args.voters.now c.args.position in
     let aim : Aim = record { position = c.args.position; ballot = record { round = before.round + 1; client = c.args.desk.now.client } } in
     let h : IsBidder intent aim first before = record {
       desk = c.requires.desk;
       position = c.requires.position;
+      placed = refl;
       ballot = refl;
       last = c.requires.round;
       voters = λ s v. omega (arith, c.requires.voters s v, c.requires.setting.services);
@@ -60,11 +62,12 @@ returns-in-Err-clause-leaves g c =
     let sees = desk_view g.W.Work.sees g.K.Keeper.sees g.L.Link.sees in
     let first = sees c.args.desk.now in
     let before = c.args.kept.now in
-    let intent : Intent = intent_of c.args.want c.args.voters.now in
+    let intent : Intent = intent_of c.args.want c.args.voters.now c.args.position in
     let aim : Aim = record { position = c.args.position; ballot = record { round = before.round + 1; client = c.args.desk.now.client } } in
     let h : IsBidder intent aim first before = record {
       desk = c.requires.desk;
       position = c.requires.position;
+      placed = refl;
       ballot = refl;
       last = c.requires.round;
       voters = λ s v. omega (arith, c.requires.voters s v, c.requires.setting.services);
@@ -80,11 +83,12 @@ acts-init g c =
     let sees = desk_view g.W.Work.sees g.K.Keeper.sees g.L.Link.sees in
     let first = sees c.args.desk.now in
     let before = c.args.kept.now in
-    let intent : Intent = intent_of c.args.want c.args.voters.now in
+    let intent : Intent = intent_of c.args.want c.args.voters.now c.args.position in
     let aim : Aim = record { position = c.args.position; ballot = record { round = before.round + 1; client = c.args.desk.now.client } } in
     let h : IsBidder intent aim first before = record {
       desk = c.requires.desk;
       position = c.requires.position;
+      placed = refl;
       ballot = refl;
       last = c.requires.round;
       voters = λ s v. omega (arith, c.requires.voters s v, c.requires.setting.services);
@@ -108,11 +112,12 @@ perform-requires-clause-may g c =
     let sees = desk_view g.W.Work.sees g.K.Keeper.sees g.L.Link.sees in
     let first = sees c.args.desk.now in
     let before = c.args.kept.now in
-    let intent : Intent = intent_of c.args.want c.args.voters.now in
+    let intent : Intent = intent_of c.args.want c.args.voters.now c.args.position in
     let aim : Aim = record { position = c.args.position; ballot = record { round = before.round + 1; client = c.args.desk.now.client } } in
     let h : IsBidder intent aim first before = record {
       desk = c.requires.desk;
       position = c.requires.position;
+      placed = refl;
       ballot = refl;
       last = c.requires.round;
       voters = λ s v. omega (arith, c.requires.voters s v, c.requires.setting.services);
@@ -140,11 +145,12 @@ returns-in-Failed-clause-made g c =
     let sees = desk_view g.W.Work.sees g.K.Keeper.sees g.L.Link.sees in
     let first = sees c.args.desk.now in
     let before = c.args.kept.now in
-    let intent : Intent = intent_of c.args.want c.args.voters.now in
+    let intent : Intent = intent_of c.args.want c.args.voters.now c.args.position in
     let aim : Aim = record { position = c.args.position; ballot = record { round = before.round + 1; client = c.args.desk.now.client } } in
     let h : IsBidder intent aim first before = record {
       desk = c.requires.desk;
       position = c.requires.position;
+      placed = refl;
       ballot = refl;
       last = c.requires.round;
       voters = λ s v. omega (arith, c.requires.voters s v, c.requires.setting.services);
@@ -156,16 +162,39 @@ returns-in-Failed-clause-made g c =
     let does = subst (λ (x : Answer). DoesAct aim (Keep (before.round + 1)) x first (sees c.keep_round.new.desk) before c.keep_round.new.kept) c.in-Failed.is c.in-Ok.ensures.acts in
     (first_failed intent aim first before h (sees c.keep_round.new.desk) c.keep_round.new.kept does).2
 
+pub returns-in-Failed-clause-leaves : goal.returns-in-Failed-clause-leaves
+returns-in-Failed-clause-leaves g c =
+    let sees = desk_view g.W.Work.sees g.K.Keeper.sees g.L.Link.sees in
+    let first = sees c.args.desk.now in
+    let before = c.args.kept.now in
+    let intent : Intent = intent_of c.args.want c.args.voters.now c.args.position in
+    let aim : Aim = record { position = c.args.position; ballot = record { round = before.round + 1; client = c.args.desk.now.client } } in
+    let h : IsBidder intent aim first before = record {
+      desk = c.requires.desk;
+      position = c.requires.position;
+      placed = refl;
+      ballot = refl;
+      last = c.requires.round;
+      voters = λ s v. omega (arith, c.requires.voters s v, c.requires.setting.services);
+      entry = c.requires.entry;
+      state = c.requires.state;
+      ranges = c.requires.ranges;
+      seated = c.requires.seated;
+    } in
+    let does = subst (λ (x : Answer). DoesAct aim (Keep (before.round + 1)) x first (sees c.keep_round.new.desk) before c.keep_round.new.kept) c.in-Failed.is c.in-Ok.ensures.acts in
+    (first_failed intent aim first before h (sees c.keep_round.new.desk) c.keep_round.new.kept does).0
+
 pub returns-in-End-clause-made : goal.returns-in-End-clause-made
 returns-in-End-clause-made g c =
     let sees = desk_view g.W.Work.sees g.K.Keeper.sees g.L.Link.sees in
     let first = sees c.args.desk.now in
     let before = c.args.kept.now in
-    let intent : Intent = intent_of c.args.want c.args.voters.now in
+    let intent : Intent = intent_of c.args.want c.args.voters.now c.args.position in
     let aim : Aim = record { position = c.args.position; ballot = record { round = before.round + 1; client = c.args.desk.now.client } } in
     let h : IsBidder intent aim first before = record {
       desk = c.requires.desk;
       position = c.requires.position;
+      placed = refl;
       ballot = refl;
       last = c.requires.round;
       voters = λ s v. omega (arith, c.requires.voters s v, c.requires.setting.services);
@@ -192,11 +221,12 @@ returns-in-End-clause-shows g c =
     let sees = desk_view g.W.Work.sees g.K.Keeper.sees g.L.Link.sees in
     let first = sees c.args.desk.now in
     let before = c.args.kept.now in
-    let intent : Intent = intent_of c.args.want c.args.voters.now in
+    let intent : Intent = intent_of c.args.want c.args.voters.now c.args.position in
     let aim : Aim = record { position = c.args.position; ballot = record { round = before.round + 1; client = c.args.desk.now.client } } in
     let h : IsBidder intent aim first before = record {
       desk = c.requires.desk;
       position = c.requires.position;
+      placed = refl;
       ballot = refl;
       last = c.requires.round;
       voters = λ s v. omega (arith, c.requires.voters s v, c.requires.setting.services);
@@ -223,11 +253,12 @@ returns-in-End-clause-leaves g c =
     let sees = desk_view g.W.Work.sees g.K.Keeper.sees g.L.Link.sees in
     let first = sees c.args.desk.now in
     let before = c.args.kept.now in
-    let intent : Intent = intent_of c.args.want c.args.voters.now in
+    let intent : Intent = intent_of c.args.want c.args.voters.now c.args.position in
     let aim : Aim = record { position = c.args.position; ballot = record { round = before.round + 1; client = c.args.desk.now.client } } in
     let h : IsBidder intent aim first before = record {
       desk = c.requires.desk;
       position = c.requires.position;
+      placed = refl;
       ballot = refl;
       last = c.requires.round;
       voters = λ s v. omega (arith, c.requires.voters s v, c.requires.setting.services);
@@ -254,11 +285,12 @@ acts-preserved g c =
     let sees = desk_view g.W.Work.sees g.K.Keeper.sees g.L.Link.sees in
     let first = sees c.args.desk.now in
     let before = c.args.kept.now in
-    let intent : Intent = intent_of c.args.want c.args.voters.now in
+    let intent : Intent = intent_of c.args.want c.args.voters.now c.args.position in
     let aim : Aim = record { position = c.args.position; ballot = record { round = before.round + 1; client = c.args.desk.now.client } } in
     let h : IsBidder intent aim first before = record {
       desk = c.requires.desk;
       position = c.requires.position;
+      placed = refl;
       ballot = refl;
       last = c.requires.round;
       voters = λ s v. omega (arith, c.requires.voters s v, c.requires.setting.services);
@@ -283,11 +315,12 @@ returns-in-Err-perform-clause-broken g c =
     let sees = desk_view g.W.Work.sees g.K.Keeper.sees g.L.Link.sees in
     let first = sees c.args.desk.now in
     let before = c.args.kept.now in
-    let intent : Intent = intent_of c.args.want c.args.voters.now in
+    let intent : Intent = intent_of c.args.want c.args.voters.now c.args.position in
     let aim : Aim = record { position = c.args.position; ballot = record { round = before.round + 1; client = c.args.desk.now.client } } in
     let h : IsBidder intent aim first before = record {
       desk = c.requires.desk;
       position = c.requires.position;
+      placed = refl;
       ballot = refl;
       last = c.requires.round;
       voters = λ s v. omega (arith, c.requires.voters s v, c.requires.setting.services);
@@ -312,11 +345,12 @@ returns-in-Err-perform-clause-leaves g c =
     let sees = desk_view g.W.Work.sees g.K.Keeper.sees g.L.Link.sees in
     let first = sees c.args.desk.now in
     let before = c.args.kept.now in
-    let intent : Intent = intent_of c.args.want c.args.voters.now in
+    let intent : Intent = intent_of c.args.want c.args.voters.now c.args.position in
     let aim : Aim = record { position = c.args.position; ballot = record { round = before.round + 1; client = c.args.desk.now.client } } in
     let h : IsBidder intent aim first before = record {
       desk = c.requires.desk;
       position = c.requires.position;
+      placed = refl;
       ballot = refl;
       last = c.requires.round;
       voters = λ s v. omega (arith, c.requires.voters s v, c.requires.setting.services);

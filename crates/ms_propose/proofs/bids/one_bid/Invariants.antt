@@ -6,7 +6,7 @@ use Rattle.ms_propose.proofs.bids.one_bid.Given as goal
 
 abbrev pub invariant-acts : goal.invariant-acts
 invariant-acts g l =
-    BidGoes (intent_of l.fn.want l.fn.voters) l.aim (desk_view g.W.Work.sees g.K.Keeper.sees g.L.Link.sees l.fn.desk) (desk_view g.W.Work.sees g.K.Keeper.sees g.L.Link.sees l.desk) l.fn.kept l.kept l.proposer
+    BidGoes (intent_of l.fn.want l.fn.voters l.fn.position) l.aim (desk_view g.W.Work.sees g.K.Keeper.sees g.L.Link.sees l.fn.desk) (desk_view g.W.Work.sees g.K.Keeper.sees g.L.Link.sees l.desk) l.fn.kept l.kept l.proposer
 
 abbrev pub decreases-acts : goal.decreases-acts
 decreases-acts g l = acts_left l.proposer
