@@ -1,5 +1,5 @@
 -- What one act leaves of a desk.
-use Rattle.std.proofs.Common.{◌≡◌, ◌≢◌, ℕ, zero, suc, ◌+◌, ◌<◌, ◌≤◌, ◌==◌, Bool, true, false, cond, List, [], ◌∷◌, ◌++◌, Option, Some, None, ◌⊎◌, inl, inr, Result, Ok, Err, refl, sym, ap, ◌∙◌, subst, length, max, arith, drop, slice_get}
+use Rattle.std.proofs.Common.{◌≡◌, ℕ, zero, suc, ◌<◌, ◌≤◌, ◌==◌, Bool, true, false, cond, List, [], ◌∷◌, ◌++◌, Option, Some, inl, inr, Result, Ok, Err, refl, sym, ap, ◌∙◌, subst, length, arith, drop, slice_get}
 use Rattle.std.specs.Prelude.{Contains}
 use Rattle.std.proofs.lemmas.List.Elements.{Contains-append_right, filter_map-append}
 use Rattle.ms_base.specs.Counts.{Rose}
@@ -9,9 +9,7 @@ use Rattle.ms_base.specs.declared.outside.OutsideError.{OutsideError}
 use Rattle.ms_base.specs.declared.outside.OutsideError.TheVariants as errors
 use Rattle.ms_bid.specs.declared.act.Act.{Act}
 use Rattle.ms_bid.specs.declared.act.Act.TheVariants.{Keep, Send, Look, Declare, End}
-use Rattle.ms_bid.specs.declared.act.Answer.{Answer}
 use Rattle.ms_bid.specs.declared.act.Answer.TheVariants.{Kept as KeptAnswer, Sent, Seen, Declared, Failed}
-use Rattle.ms_bid.specs.Bids.{fits}
 use Rattle.ms_core.specs.Asking.{MayOffer}
 use Rattle.ms_core.specs.Views.{View, IsClosed, log_in, owner_of_client, votes_told}
 use Rattle.ms_ken.specs.Known.{Known, TableId}
@@ -19,7 +17,6 @@ use Rattle.ms_ken.specs.Lists.{list_at, Begins, with_item, with_told}
 use Rattle.ms_ken.specs.Prefixes.{get_splits, prefix_self}
 use Rattle.ms_ken.specs.Rows.{begins_self, begins_told}
 use Rattle.ms_link.specs.Composing.{learns_self}
-use Rattle.ms_link.specs.Links.{Learns as PassLearns, LinkView}
 use Rattle.ms_record.specs.declared.item.Item.{Item}
 use Rattle.ms_record.specs.declared.item.Item.TheVariants.{Log, Offer}
 use Rattle.ms_record.specs.declared.log.ListId.{ListId}
@@ -40,17 +37,16 @@ use Rattle.ms_record.specs.Sights.{IsSight}
 use Rattle.ms_local.specs.declared.deed.Deed.{Deed}
 use Rattle.ms_local.specs.declared.kept.Kept.{Kept}
 use Rattle.ms_local.specs.declared.kept.Key.TheVariants.{Object}
-use Rattle.ms_local.specs.Desks.{DeskView, HasKeptRound, IsDesk, KnowsTold, LanesStay, with_deed}
-use Rattle.ms_local.specs.Keeping.{HasState, MayHaveState, WritesKept}
+use Rattle.ms_local.specs.Desks.{DeskView, HasKeptRound, IsDesk, KnowsTold, with_deed}
+use Rattle.ms_local.specs.Keeping.{MayHaveState, WritesKept}
 use Rattle.ms_local.specs.Outside.{KeeperView, WhereTold}
 use Rattle.ms_propose.specs.declared.acts.Aim.{Aim}
-use Rattle.ms_propose.specs.Acts.{DoesAct, Halts, Leaves, MayDo, MayHaveKept, deed_of, kept_round, vote_list, with_round}
+use Rattle.ms_propose.specs.Acts.{DoesAct, Halts, MayDo, MayHaveKept, deed_of, kept_round, vote_list, with_round}
 use Rattle.ms_propose.proofs.Composing.{keeps_self, lanes_self, votes_begin}
 use Rattle.ms_propose.specs.Going.{DeskBids, KeepsObjects}
 use Rattle.ms_local.specs.Desks.{OnTold, faults_at}
 use Rattle.ms_local.specs.Calls.{AppendsAt, DeskCalls}
 use Rattle.ms_replay.specs.Looks.{IsInRange}
-use Rattle.ms_local.specs.Truths.{IsTrueSight}
 
 -- a text that was appended is one of its list
 pub text_there : (log : List LogEvent) (text : List ℕ) → Contains log (Rec vote_list text) → Contains (vote_texts log) text

@@ -1,5 +1,5 @@
 -- How what bids leave of a desk goes together.
-use Rattle.std.proofs.Common.{◌≡◌, ◌≢◌, ℕ, zero, suc, ◌⊎◌, inl, inr, ◌+◌, ◌≤◌, true, false, Bool, List, [], ◌∷◌, ◌++◌, length, Option, Some, None, refl, sym, ap, ◌∙◌, subst, append_assoc, arith, slice_get, slice_index_or}
+use Rattle.std.proofs.Common.{◌≡◌, ◌≢◌, ℕ, zero, suc, ◌⊎◌, inl, inr, ◌≤◌, true, false, Bool, List, [], ◌∷◌, ◌++◌, length, Option, Some, None, refl, sym, ap, ◌∙◌, subst, append_assoc, arith, slice_get, slice_index_or}
 use Rattle.std.specs.Prelude.{Contains}
 use Rattle.std.specs.Option.{option_map, option_map_or}
 use Rattle.std.proofs.lemmas.List.{append-nil}
@@ -17,7 +17,7 @@ use Rattle.ms_record.specs.declared.ballot.Ballot.{Ballot}
 use Rattle.ms_record.specs.declared.item.Item.{Item}
 use Rattle.ms_record.specs.declared.item.Item.TheVariants.{Offer, Told}
 use Rattle.ms_record.specs.declared.log.LogEvent.{LogEvent}
-use Rattle.ms_record.specs.declared.record.Record.TheVariants.{Prepare, Accept}
+use Rattle.ms_record.specs.declared.record.Record.TheVariants.{Prepare}
 use Rattle.ms_record.specs.declared.setting.Setting.{Setting}
 use Rattle.ms_record.specs.declared.sight.Sight.{Sight}
 use Rattle.ms_record.specs.Growing.{texts_append, votes_grow}
@@ -25,7 +25,7 @@ use Rattle.ms_record.specs.Logs.{texts_in}
 use Rattle.ms_local.specs.declared.deed.Deed.{Deed}
 use Rattle.ms_local.specs.declared.deed.Deed.TheVariants as deeds
 use Rattle.ms_local.specs.declared.deed.Deed.TheVariants.{KeepFailed, Kept as KeptDeed, StateKept, Appended, Declared, Looked, Listed}
-use Rattle.ms_local.specs.declared.deed.Message.TheVariants.{Vote, Ref}
+use Rattle.ms_local.specs.declared.deed.Message.TheVariants.{Vote}
 use Rattle.ms_local.specs.declared.kept.Kept.{Kept}
 use Rattle.ms_local.specs.declared.kept.Key.TheVariants.{State}
 use Rattle.ms_local.specs.Desks.{DeskView, HasFault, HasKeptRound, IsDesk, KnowsTold, LanesStay, LinksStay, first_link, faults_at, round_of}
@@ -274,7 +274,7 @@ pub kinds_self : (deed : Deed) → Contains [] deed → IsBidDeed deed
 kinds_self deed is = absurd (omega (arith, is.1))
 
 pub kinds_on : (xs ys : List Deed) → ((deed : Deed) → Contains xs deed → IsBidDeed deed) → ((deed : Deed) → Contains ys deed → IsBidDeed deed) → (deed : Deed) → Contains (xs ++ ys) deed → IsBidDeed deed
-kinds_on xs ys h k deed is = elim (Contains-append_cases xs ys deed is) [ | inl x ↦ h deed x | inr y ↦ k deed y ]
+kinds_on xs ys h k deed is = elim (Contains-append_cases xs ys deed is) [ inl x ↦ h deed x | inr y ↦ k deed y ]
 
 -- ---- the kept round
 

@@ -1,57 +1,27 @@
 -- A bid goes on at a desk.
-use Rattle.std.proofs.Common.{◌≡◌, ◌≢◌, ℕ, ◌+◌, ◌<◌, ◌≤◌, Bool, true, false, List, [], ◌∷◌, ◌++◌, Option, Some, None, ◌⊎◌, inl, inr, refl, sym, ap, ◌∙◌, subst, length, max, append_assoc, arith, slice_get, slice_set, replicate}
+use Rattle.std.proofs.Common.{◌≡◌, ℕ, ◌+◌, ◌<◌, ◌≤◌, true, Option, Some, None, inl, inr, refl, sym, ap, ◌∙◌, subst, arith}
 use Rattle.std.specs.Prelude.{Contains, IfSome}
-use Rattle.std.specs.Option.{option_map}
-use Rattle.std.proofs.lemmas.List.{append-nil}
-use Rattle.std.proofs.lemmas.List.Elements.{Contains-append_cases}
-use mathlib.Core.List.{IsPrefix}
-use Rattle.ms_base.specs.Counts.{Rose}
 use Rattle.ms_base.specs.declared.limits.TheConstants.{LAST_NUMBER}
-use Rattle.ms_base.specs.declared.names.ServiceId.{ServiceId}
 use Rattle.ms_bid.specs.declared.act.Act.{Act}
 use Rattle.ms_bid.specs.declared.act.Act.TheVariants.{Keep, Send, Look, Declare, End}
 use Rattle.ms_bid.specs.declared.act.Answer.{Answer}
 use Rattle.ms_bid.specs.declared.act.Answer.TheVariants.{Kept as KeptAnswer, Sent, Seen, Declared, Failed}
-use Rattle.ms_bid.specs.declared.bid.Bid.{Bid}
-use Rattle.ms_bid.specs.Bids.{IsBid, IsPending, fits, message_of, noted, with_sight}
-use Rattle.ms_bid.specs.Ends.{flag_at}
-use Rattle.ms_core.specs.Views.{View, log_in, offers_told, owner_of_client, votes_told}
-use Rattle.ms_ken.specs.Known.{Known}
-use Rattle.ms_ken.specs.Lists.{list_at, Begins, with_item, with_told}
-use Rattle.ms_ken.specs.Rows.{begins_self, item_here}
-use Rattle.ms_link.specs.Links.{Learns as PassLearns}
+use Rattle.ms_core.specs.Views.{offers_told}
 use Rattle.ms_record.specs.declared.ballot.Ballot.{Ballot}
-use Rattle.ms_record.specs.declared.entry.Entry.{Entry}
-use Rattle.ms_record.specs.declared.item.Item.{Item}
-use Rattle.ms_record.specs.declared.item.Item.TheVariants.{Offer}
-use Rattle.ms_record.specs.declared.record.Record.{Record}
-use Rattle.ms_record.specs.declared.record.Record.TheVariants.{Prepare, Accept}
+use Rattle.ms_record.specs.declared.record.Record.TheVariants.{Accept}
 use Rattle.ms_record.specs.declared.setting.Setting.{Setting}
-use Rattle.ms_record.specs.declared.sight.Sight.{Sight}
-use Rattle.ms_record.specs.Items.{offers_of_items}
-use Rattle.ms_record.specs.Records.{IsBallot, IsRecord, record_text}
-use Rattle.ms_record.specs.Reading.{record_at}
-use Rattle.ms_record.specs.Votes.{ballot_of}
-use Rattle.ms_local.specs.declared.deed.Deed.{Deed}
-use Rattle.ms_local.specs.declared.deed.Deed.TheVariants.{Kept as KeptDeed, Appended, Looked, Declared as DeclaredDeed}
-use Rattle.ms_local.specs.declared.deed.Message.TheVariants.{Vote as VoteText}
+use Rattle.ms_record.specs.Records.{IsBallot}
 use Rattle.ms_local.specs.declared.kept.Kept.{Kept}
 use Rattle.ms_local.specs.declared.kept.Key.TheVariants.{State}
 use Rattle.ms_local.specs.Desks.{AreWithin, DeskView, HasKeptRound, IsDesk, KnowsTold, MayKeepRound, round_of}
-use Rattle.ms_local.specs.Keeping.{HasRanges, HasState, MayHaveState, state_in, state_of}
+use Rattle.ms_local.specs.Keeping.{HasRanges, MayHaveState, state_in}
 use Rattle.ms_local.specs.Outside.{KeeperView, KeptTexts, WhereTold}
 use Rattle.ms_local.specs.Rules.{shown_round}
-use Rattle.ms_local.specs.States.{kept_at}
 use Rattle.ms_propose.specs.declared.acts.Aim.{Aim}
-use Rattle.ms_propose.specs.Acts.{DoesAct, Halts, Leaves, MayDo, MayHaveKept, deed_of, kept_round, vote_list, with_round}
-use Rattle.ms_propose.specs.Bidding.{IsBidOf}
-use Rattle.ms_propose.proofs.Composing.{StaysKept, kept_lower, leaves_quiet, round_is, stays_self}
-use Rattle.ms_propose.specs.Going.{DeskBids}
-use Rattle.ms_local.specs.Desks.{OnTold, faults_at}
-use Rattle.ms_replay.specs.Looks.{IsInRange}
-use Rattle.ms_propose.specs.TrueBids.{HasEntries, IsNewest, IsTrueBid}
-use Rattle.ms_local.specs.Truths.{IsStateAt, IsTrueDeed, IsTrueSight, OwnHistory, TrueDeeds, TrueLooks, ballot_at, offers_of}
-use Rattle.ms_propose.proofs.Growing.{learnt, sent_there, true_declared, true_failed, true_seen, true_sent}
+use Rattle.ms_propose.specs.Acts.{Leaves, MayHaveKept, kept_round, with_round}
+use Rattle.ms_propose.proofs.Composing.{StaysKept, kept_lower, round_is, stays_self}
+use Rattle.ms_propose.specs.TrueBids.{IsNewest}
+use Rattle.ms_local.specs.Truths.{IsStateAt}
 
 -- ---- the state
 

@@ -1,9 +1,8 @@
 -- A bid that is true stays so by each act.
-use Rattle.std.proofs.Common.{◌≡◌, ◌≢◌, ℕ, zero, suc, ◌+◌, ◌<◌, ◌≤◌, Bool, true, false, List, [], ◌∷◌, ◌++◌, Option, Some, None, ◌⊎◌, inl, inr, refl, sym, ap, ◌∙◌, subst, length, replicate, slice_get, slice_set, slice_index_or, arith}
+use Rattle.std.proofs.Common.{◌≡◌, ℕ, zero, suc, ◌<◌, Bool, true, false, List, [], ◌∷◌, ◌++◌, Option, Some, None, ◌⊎◌, inl, inr, refl, sym, ap, ◌∙◌, subst, length, replicate, slice_get, slice_set, arith}
 use Rattle.std.specs.Prelude.{Contains}
 use Rattle.std.proofs.lemmas.List.Elements.{Contains-append_left, filter_map-append}
 use mathlib.Core.List.{IsPrefix}
-use Rattle.ms_base.specs.declared.names.ServiceId.{ServiceId}
 use Rattle.ms_bid.specs.declared.act.Act.{Act}
 use Rattle.ms_bid.specs.declared.bid.Bid.{Bid}
 use Rattle.std.specs.List.{filter_map}
@@ -12,7 +11,7 @@ use Rattle.ms_bid.specs.Ends.{flag_at, ShowsGreater}
 use Rattle.ms_bid.specs.Shown.{shows, sight_at}
 use Rattle.ms_core.specs.Closing.{logs_grow, offered_stays, whole_stays}
 use Rattle.ms_core.specs.Valid.{judging_plan}
-use Rattle.ms_core.specs.Views.{View, log_in, offers_told, owner_of_client, votes_told, IsNextMaster}
+use Rattle.ms_core.specs.Views.{View, log_in, offers_told, owner_of_client, votes_told}
 use Rattle.ms_ken.specs.Lists.{list_at, Begins, with_item}
 use Rattle.ms_ken.specs.Prefixes.{get_last}
 use Rattle.ms_ken.specs.Rows.{begins_item, begins_self, item_here}
@@ -21,7 +20,7 @@ use Rattle.ms_record.specs.declared.entry.Entry.{Entry}
 use Rattle.ms_record.specs.declared.item.Item.{Item}
 use Rattle.ms_record.specs.declared.item.Item.TheVariants.{Offer}
 use Rattle.ms_record.specs.declared.record.Record.{Record}
-use Rattle.ms_record.specs.declared.record.Record.TheVariants.{Prepare, Accept}
+use Rattle.ms_record.specs.declared.record.Record.TheVariants.{Accept}
 use Rattle.ms_record.specs.declared.setting.Setting.{Setting}
 use Rattle.ms_record.specs.declared.sight.Sight.{Sight}
 use Rattle.ms_record.specs.Growing.{linked_grows, votes_grow}
@@ -31,7 +30,7 @@ use Rattle.ms_record.specs.Offers.{IsOffered}
 use Rattle.ms_record.specs.Reading.{record_at, votes_of, with_record}
 use Rattle.ms_record.specs.Settings.{origin_of}
 use Rattle.ms_propose.proofs.Composing.{sight_on, votes_begin}
-use Rattle.ms_propose.specs.TrueBids.{AreListed, AreSent, AreTrue, HasOffer, IsNewest, IsSeated, IsTrueBid}
+use Rattle.ms_propose.specs.TrueBids.{AreTrue, HasOffer, IsNewest, IsSeated, IsTrueBid}
 use Rattle.ms_local.specs.Truths.{IsTrueSight}
 use Rattle.ms_propose.proofs.Truths.{shows_or_greater}
 

@@ -1,5 +1,5 @@
 -- The rules of bids in the terms of deeds.
-use Rattle.std.proofs.Common.{◌≡◌, ℕ, ◌+◌, ◌*◌, ◌≤◌, ◌<◌, ◌==◌, Bool, true, false, cond, List, Option, Some, None, ◌⊎◌, inl, inr, refl, sym, ap, ◌∙◌, subst, length, take, count_by, arith}
+use Rattle.std.proofs.Common.{◌≡◌, ℕ, ◌*◌, ◌≤◌, ◌<◌, Bool, true, false, cond, List, Option, Some, None, ◌⊎◌, inl, inr, refl, sym, ap, ◌∙◌, subst, length, take, arith}
 use Rattle.std.specs.Prelude.{Contains, ◌&&◌}
 use Rattle.ms_bid.specs.declared.sight.Sought.TheVariants.{Promise, Taken}
 use Rattle.ms_bid.specs.Bids.{IsOfBest, IsOfferOf as BidOffers, OnlySeen}
@@ -9,7 +9,7 @@ use Rattle.ms_record.specs.declared.entry.Entry.{Entry}
 use Rattle.ms_record.specs.declared.sight.Sight.{Sight}
 use Rattle.ms_record.specs.Offers.{IsOfGreatest}
 use Rattle.ms_record.specs.Votes.{IsMajority}
-use Rattle.ms_local.specs.Rules.{IsOfferOf, IsWanted, Intent, best_in, is_voter, promised_by, promises, taken_by, takes}
+use Rattle.ms_local.specs.Rules.{IsOfferOf, IsWanted, best_in, is_voter, promised_by, promises, taken_by, takes}
 use Rattle.ms_propose.proofs.Lists.{count_same, is_member, member_is, take_at}
 
 promises_as : (o : Option Sight) → promises o ≡ shows Promise o

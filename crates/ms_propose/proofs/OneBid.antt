@@ -1,9 +1,7 @@
 -- One bid at a desk, from its first act to its end.
-use Rattle.std.proofs.Common.{◌≡◌, ◌≢◌, ℕ, ◌+◌, ◌<◌, ◌≤◌, Bool, true, false, List, [], ◌∷◌, ◌++◌, Option, Some, None, Result, Ok, Err, refl, sym, ap, ◌∙◌, subst, length, arith}
+use Rattle.std.proofs.Common.{◌≡◌, ◌≢◌, ℕ, ◌+◌, ◌<◌, true, false, List, [], ◌∷◌, ◌++◌, Option, Some, None, Ok, refl, sym, ap, ◌∙◌, subst, length, arith}
 use Rattle.std.specs.Prelude.{Contains}
-use Rattle.ms_base.specs.Counts.{Rose}
-use Rattle.ms_base.specs.declared.limits.TheConstants.{LAST_NUMBER, CLIENTS}
-use Rattle.ms_base.specs.declared.names.ServiceId.{ServiceId}
+use Rattle.ms_base.specs.declared.limits.TheConstants.{LAST_NUMBER}
 use Rattle.ms_bid.specs.declared.act.Act.{Act}
 use Rattle.ms_bid.specs.declared.act.Act.TheVariants.{Keep, Send, Look, Declare, End}
 use Rattle.ms_bid.specs.declared.act.Answer.{Answer}
@@ -11,7 +9,7 @@ use Rattle.ms_bid.specs.declared.act.Answer.TheVariants.{Kept as KeptAnswer, Sen
 use Rattle.ms_bid.specs.declared.act.Outcome.{Outcome}
 use Rattle.ms_bid.specs.declared.act.Outcome.TheVariants.{Decided, Nothing, Outbid, NoMajority, Unlisted, KeepFault}
 use Rattle.ms_bid.specs.declared.bid.Bid.{Bid}
-use Rattle.ms_bid.specs.Bids.{IsBid, IsFresh, IsOfferOf, IsPending, MayFault, acts_left, fits, left_at, message_of, noted}
+use Rattle.ms_bid.specs.Bids.{IsBid, IsFresh, IsPending, MayFault, acts_left, fits, message_of, noted}
 use Rattle.ms_bid.specs.Truths.{IsDecidedTaken, IsOfferJustified}
 use Rattle.ms_core.specs.Views.{View, log_in, offers_told, owner_of_client, votes_told, IsNextMaster, SupportsOffer, SupportsVote}
 use Rattle.std.proofs.lemmas.List.{append-nil}
@@ -20,7 +18,6 @@ use Rattle.ms_ken.specs.Known.{Known, TableId}
 use Rattle.ms_ken.specs.Lists.{list_at}
 use Rattle.ms_record.specs.declared.item.Item.{Item}
 use Rattle.ms_record.specs.declared.sight.Sight.{Sight}
-use Rattle.ms_link.specs.Links.{Learns as PassLearns}
 use Rattle.ms_record.specs.declared.ballot.Ballot.{Ballot}
 use Rattle.ms_record.specs.declared.entry.Entry.{Entry}
 use Rattle.ms_record.specs.declared.record.Record.{Record}
@@ -30,7 +27,7 @@ use Rattle.ms_record.specs.Chains.{IsLinked, voters_behind}
 use Rattle.ms_record.specs.Entries.{IsEntry}
 use Rattle.ms_record.specs.Offers.{IsOffered, JustifiedBy}
 use Rattle.ms_record.specs.Reading.{record_at}
-use Rattle.ms_record.specs.Records.{IsBallot, IsPosition, IsRecord, record_text}
+use Rattle.ms_record.specs.Records.{IsPosition, IsRecord, record_text}
 use Rattle.ms_record.specs.Settings.{origin_of}
 use Rattle.ms_record.specs.Votes.{ChosenBy}
 use Rattle.ms_local.specs.declared.deed.Deed.{Deed}
@@ -40,7 +37,7 @@ use Rattle.ms_local.specs.Desks.{DeskView, HasKeptRound, IsDesk, KnowsTold}
 use Rattle.ms_local.specs.Keeping.{HasRanges}
 use Rattle.ms_local.specs.Rules.{Bidding, Intent}
 use Rattle.ms_propose.specs.declared.acts.Aim.{Aim}
-use Rattle.ms_propose.specs.Acts.{DoesAct, Halts, Leaves, MayDo, MayHaveKept, deed_of, kept_round, with_round}
+use Rattle.ms_propose.specs.Acts.{DoesAct, Halts, MayDo, MayHaveKept, kept_round, with_round}
 use Rattle.ms_propose.specs.Bidding.{BidHalted, BidMade, BidRuns, IsBidOf}
 use Rattle.ms_propose.proofs.Composing.{bids_client, bids_on, bids_services, history_on, kept_there_self, leaves_on, leaves_quiet, told_back}
 use Rattle.ms_propose.specs.Going.{DeskBids}

@@ -1,25 +1,20 @@
 -- What one act adds: its deed is true, the own list goes on by it, and the bid stays true.
-use Rattle.std.proofs.Common.{◌≡◌, ◌≢◌, ℕ, zero, suc, cond, ◌+◌, ◌<◌, ◌≤◌, Bool, true, false, List, [], ◌∷◌, ◌++◌, Option, Some, None, ◌⊎◌, inl, inr, refl, sym, ap, ◌∙◌, subst, length, append_assoc, arith, slice_set, replicate}
+use Rattle.std.proofs.Common.{◌≡◌, ℕ, zero, suc, cond, ◌<◌, Bool, true, false, List, [], ◌∷◌, ◌++◌, Option, Some, None, inl, inr, refl, sym, ap, ◌∙◌, subst, length, append_assoc, arith, slice_set}
 use Rattle.std.specs.Prelude.{Contains, IfSome}
-use Rattle.std.specs.List.{filter_map}
 use Rattle.std.proofs.lemmas.List.{append-nil}
 use Rattle.std.proofs.lemmas.List.Elements.{Contains-append_cases}
-use mathlib.Core.List.{IsPrefix}
-use Rattle.ms_base.specs.Counts.{Rose}
-use Rattle.ms_base.specs.declared.names.ServiceId.{ServiceId}
 use Rattle.ms_bid.specs.declared.act.Act.{Act}
-use Rattle.ms_bid.specs.declared.act.Act.TheVariants.{Keep, Send, Look, Declare, End}
+use Rattle.ms_bid.specs.declared.act.Act.TheVariants.{Keep, Send, Look, Declare}
 use Rattle.ms_bid.specs.declared.act.Answer.{Answer}
 use Rattle.ms_bid.specs.declared.act.Answer.TheVariants.{Kept as KeptAnswer, Sent, Seen, Declared, Failed}
 use Rattle.ms_bid.specs.declared.bid.Bid.{Bid}
-use Rattle.ms_bid.specs.Bids.{IsBid, IsOfBest, IsPending, fits, message_of, noted, with_sight}
-use Rattle.ms_bid.specs.Ends.{flag_at}
+use Rattle.ms_bid.specs.Bids.{IsBid, IsOfBest, IsPending, message_of, noted, with_sight}
 use Rattle.ms_bid.specs.Shown.{sight_at, shown_best, GreatestUpTo}
-use Rattle.ms_core.specs.Views.{View, log_in, offers_told, owner_of_client, votes_told}
+use Rattle.ms_core.specs.Views.{View, offers_told, owner_of_client, votes_told}
 use Rattle.ms_ken.specs.Known.{Known}
 use Rattle.ms_ken.specs.Lists.{list_at, Begins, with_item, with_told}
 use Rattle.ms_ken.specs.Prefixes.{prefix_trans}
-use Rattle.ms_ken.specs.Rows.{begins_self, item_here}
+use Rattle.ms_ken.specs.Rows.{item_here}
 use Rattle.ms_link.specs.Links.{Learns as PassLearns}
 use Rattle.ms_record.specs.declared.ballot.Ballot.{Ballot}
 use Rattle.ms_record.specs.declared.ballot.Vote.{Vote}
@@ -42,11 +37,10 @@ use Rattle.ms_local.specs.Desks.{DeskView, HasKeptRound, KnowsTold}
 use Rattle.ms_local.specs.Keeping.{HasRanges}
 use Rattle.ms_propose.specs.declared.acts.Aim.{Aim}
 use Rattle.ms_propose.specs.Acts.{Leaves, deed_of, with_round}
-use Rattle.ms_propose.specs.Bidding.{IsBidOf}
 use Rattle.ms_propose.proofs.Composing.{StaysKept, bids_self, deed_wider, sight_on, votes_begin}
 use Rattle.ms_propose.specs.Going.{DeskBids}
 use Rattle.ms_propose.specs.Leaving.{Bids, IsBidDeed}
-use Rattle.ms_local.specs.Desks.{OnTold, faults_at}
+use Rattle.ms_local.specs.Desks.{OnTold}
 use Rattle.ms_replay.specs.Looks.{IsInRange}
 use Rattle.ms_propose.specs.TrueBids.{HasEntries, IsTrueBid}
 use Rattle.ms_local.specs.Truths.{IsStateAt, IsTrueDeed, IsTrueSight, OwnHistory, TrueDeeds, TrueLooks, ballot_at, last_kept, offers_of}

@@ -1,5 +1,5 @@
 -- What true sights give, where a setting is told.
-use Rattle.std.proofs.Common.{◌≡◌, ◌≢◌, ℕ, zero, suc, ◌+◌, ◌*◌, ◌<◌, ◌≤◌, Bool, true, false, cond, List, [], ◌∷◌, ◌++◌, Option, Some, None, ◌⊎◌, inl, inr, refl, sym, ap, ◌∙◌, subst, length, slice_get, slice_index_or, arith}
+use Rattle.std.proofs.Common.{◌≡◌, ℕ, ◌+◌, ◌<◌, Bool, true, false, cond, List, [], Option, Some, None, inl, inr, refl, sym, ap, ◌∙◌, subst, length, slice_get, arith}
 use Rattle.std.specs.Prelude.{Contains}
 use Rattle.std.proofs.lemmas.Bool.{cases_lt}
 use Rattle.std.proofs.lemmas.Option.{slice_get_within}
@@ -9,14 +9,13 @@ use Rattle.ms_bid.specs.declared.act.Act.{Act}
 use Rattle.ms_bid.specs.declared.act.Act.TheVariants.{Declare, End}
 use Rattle.ms_bid.specs.declared.act.Outcome.TheVariants.{Decided, Nothing, Unlisted}
 use Rattle.ms_bid.specs.declared.bid.Bid.{Bid}
-use Rattle.ms_bid.specs.declared.sight.Sought.{Sought}
-use Rattle.ms_bid.specs.declared.sight.Sought.TheVariants.{Promise, Taken}
+use Rattle.ms_bid.specs.declared.sight.Sought.TheVariants.{Promise}
 use Rattle.ms_bid.specs.Bids.{IsBid, IsFramed, IsPending, IsOfBest, IsOfferOf, message_of, seen_of, sought_of}
-use Rattle.ms_bid.specs.Ends.{flag_at, ShowsGreater}
+use Rattle.ms_bid.specs.Ends.{ShowsGreater}
 use Rattle.ms_bid.specs.Shown.{shows, shown_best, sight_at, GreatestUpTo}
 use Rattle.ms_bid.specs.Truths.{AreSights, IsDecidedTaken, IsOfferJustified}
 use Rattle.ms_core.specs.Views.{View, log_in, offers_told, votes_told, IsNextMaster}
-use Rattle.ms_ken.specs.Prefixes.{prefix_get, prefix_self}
+use Rattle.ms_ken.specs.Prefixes.{prefix_get}
 use Rattle.ms_record.specs.declared.ballot.Ballot.{Ballot}
 use Rattle.ms_record.specs.declared.ballot.Vote.{Vote}
 use Rattle.ms_record.specs.declared.entry.Entry.{Entry}
@@ -32,8 +31,8 @@ use Rattle.ms_record.specs.Growing.{chosen_grows, justified_grows, taken_grows}
 use Rattle.ms_record.specs.Offers.{GrowsTo, IsFirstPromised, IsOffered, JustifiedBy}
 use Rattle.ms_record.specs.Settings.{origin_of}
 use Rattle.ms_record.specs.Sights.{IsSight, ShowsPromise, ShowsTaken}
-use Rattle.ms_record.specs.Votes.{ChosenBy, IsBest, IsPromised, IsTaken, NoneAbove, ballot_of, position_of}
-use Rattle.ms_propose.specs.TrueBids.{AreListed, AreTrue, HasOffer, IsNewest, IsSeated, IsTrueBid}
+use Rattle.ms_record.specs.Votes.{ChosenBy, IsBest, IsTaken, NoneAbove, ballot_of, position_of}
+use Rattle.ms_propose.specs.TrueBids.{AreListed, AreTrue, HasOffer, IsNewest, IsTrueBid}
 use Rattle.ms_local.specs.Truths.{IsTrueSight}
 use Rattle.ms_propose.proofs.Lists.{contains_at, halves_meet, place_of}
 

@@ -1,5 +1,5 @@
 -- The acts of a bid at a desk: what may be done, its deed, and what it leaves.
-use Rattle.std.specs.Prelude.{◌≡◌, ℕ, ◌<◌, ◌≤◌, true, false, List, [], ◌∷◌, ◌++◌, None, Result, Ok, Err, max, Contains}
+use Rattle.std.specs.Prelude.{◌≡◌, ℕ, ◌<◌, ◌≤◌, true, false, [], ◌∷◌, ◌++◌, Result, Ok, Err, max, Contains}
 use Rattle.ms_base.specs.Counts.{Rose}
 use Rattle.ms_base.specs.declared.bytes.NoMemory.{NoMemory}
 use Rattle.ms_base.specs.declared.limits.TheConstants.{LAST_NUMBER}
@@ -8,13 +8,12 @@ use Rattle.ms_bid.specs.declared.act.Act.TheVariants.{Keep, Send, Look, Declare}
 use Rattle.ms_bid.specs.declared.act.Answer.{Answer}
 use Rattle.ms_bid.specs.declared.act.Answer.TheVariants.{Kept as KeptAnswer, Sent, Seen, Declared, Failed}
 use Rattle.ms_bid.specs.Bids.{fits}
-use Rattle.ms_core.specs.Views.{log_in, offers_told, votes_told, SupportsOffer, SupportsVote}
+use Rattle.ms_core.specs.Views.{log_in, offers_told, SupportsOffer, SupportsVote}
 use Rattle.ms_ken.specs.Lists.{with_told}
 use Rattle.ms_link.specs.Links.{Learns as PassLearns}
 use Rattle.ms_record.specs.declared.item.Item.TheVariants.{Offer}
 use Rattle.ms_record.specs.declared.log.ListId.{ListId}
 use Rattle.ms_record.specs.declared.record.Record.TheVariants.{Accept}
-use Rattle.ms_record.specs.declared.sight.Sight.{Sight}
 use Rattle.ms_record.specs.Records.{IsRecord, record_text}
 use Rattle.ms_record.specs.Logs.{vote_texts}
 use Rattle.ms_local.specs.declared.deed.Deed.{Deed}

@@ -1,5 +1,5 @@
 -- What a bid leaves of a desk as it finds it.
-use Rattle.std.specs.Prelude.{◌≡◌, ℕ, ◌≤◌}
+use Rattle.std.specs.Prelude.{◌≡◌, ◌≤◌}
 use Rattle.ms_base.specs.declared.names.Name.{Name}
 use Rattle.ms_ken.specs.Lists.{Begins}
 use Rattle.ms_record.specs.declared.setting.Setting.{Setting}

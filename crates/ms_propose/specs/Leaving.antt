@@ -1,5 +1,5 @@
 -- What bids leave, whatever is answered.
-use Rattle.std.specs.Prelude.{◌≡◌, ℕ, ◌+◌, ◌<◌, ◌≤◌, List, Option, Some, Result, Ok, Err, Contains}
+use Rattle.std.specs.Prelude.{◌≡◌, ℕ, ◌<◌, List, Some, Result, Ok, Err, Contains}
 use Rattle.ms_base.specs.Counts.{Rose}
 use Rattle.ms_base.specs.declared.bytes.NoMemory.{NoMemory}
 use Rattle.ms_bid.specs.declared.act.Outcome.{Outcome}

@@ -1,4 +1,4 @@
-use Rattle.ms_local.specs.Desks.{DeskView, desk_view}
+use Rattle.ms_local.specs.Desks.{desk_view}
 use Rattle.ms_propose.proofs.Acting.{closed_offer, desk_offered}
 use Rattle.ms_propose.proofs.acts.declare.Goals as goal
 

@@ -1,7 +1,7 @@
-use Rattle.std.proofs.Common.{◌≡◌, Bool, true, List, [], ◌∷◌, ◌++◌, Ok, ap, subst}
+use Rattle.std.proofs.Common.{Bool, true, [], ◌∷◌, ◌++◌, Ok, ap, subst}
 use Rattle.ms_local.specs.declared.deed.Deed.TheVariants.{Appended}
 use Rattle.ms_local.specs.declared.deed.Message.TheVariants.{Vote}
-use Rattle.ms_local.specs.Calls.{AppendsNoted, DeskCalls}
+use Rattle.ms_local.specs.Calls.{AppendsNoted}
 use Rattle.ms_local.specs.Desks.{DeskView, desk_view}
 use Rattle.ms_propose.specs.Acts.{vote_list}
 use Rattle.ms_record.specs.declared.item.Item.TheVariants.{Told}

@@ -1,10 +1,9 @@
-use Rattle.std.proofs.Common.{◌≡◌, ℕ, ◌+◌, ◌<◌, refl, sym, ap, ◌∙◌, subst, arith}
+use Rattle.std.proofs.Common.{◌+◌, refl, sym, ap, ◌∙◌, subst, arith}
 use Rattle.ms_bid.specs.declared.act.Act.{Act}
 use Rattle.ms_bid.specs.declared.act.Act.TheVariants.{Keep}
 use Rattle.ms_bid.specs.declared.act.Answer.{Answer}
 use Rattle.ms_bid.specs.Bids.{left_at}
-use Rattle.ms_local.specs.declared.kept.Kept.{Kept}
-use Rattle.ms_local.specs.Desks.{DeskView, KnowsTold, desk_view}
+use Rattle.ms_local.specs.Desks.{KnowsTold, desk_view}
 use Rattle.ms_local.specs.Rules.{Intent}
 use Rattle.ms_record.specs.declared.setting.Setting.{Setting}
 use Rattle.ms_propose.specs.declared.acts.Aim.{Aim}
