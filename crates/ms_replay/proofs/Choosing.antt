@@ -25,7 +25,8 @@ use Rattle.ms_replay.specs.Tallies.{TallyView, AreVotes, AreKnown, HasVote, IsTa
 use Rattle.ms_replay.specs.Winners.{has_text, IsWinner, IsFirstWinner, IsGreatestHere, StandsBeside}
 use Rattle.ms_replay.proofs.Groups.{fixes, bytes_same, number_is, entries_order}
 use Rattle.ms_replay.proofs.PlacesKept.{kept_at}
-use Rattle.ms_replay.proofs.ListPlaces.{any_at, at_any, and_true, bool_same, count_congr_in}
+use Rattle.ms_base.specs.Options.{both}
+use Rattle.ms_replay.proofs.ListPlaces.{any_at, at_any, bool_same, count_congr_in}
 
 -- the voters are the services below n
 pub below_voter : (n s : ℕ) → s < n → Contains (services_below n) s
@@ -59,7 +60,7 @@ text_taken : (n k : ℕ) (lists : ℕ → List Record) (part : List Voted) (h : 
     → (s < n) × ((p : ℕ) × IsTaken (lists s) p k b e)
 text_taken n k lists part h b e text reads s t =
     let a = any_at (λ (v : Voted). bytes_eq v.text text && (v.service == s)) part t in
-    let two = and_true (bytes_eq a.1.text text) (a.1.service == s) a.3 in
+    let two = both (bytes_eq a.1.text text) (a.1.service == s) a.3 in
     let of_s : a.1.service ≡ s = number_is a.1.service s two.1 in
     let same : a.1.text ≡ text = same_text a.1.text text (sym two.0) in
     (omega (arith, of_s, h.known a.0 a.1 a.2), subst (λ (q : ℕ). (p : ℕ) × IsTaken (lists q) p k b e) of_s (h.taken a.0 a.1 b e a.2 (ap record_at same ∙ reads)))
@@ -101,7 +102,7 @@ in_is voters s c = at_any (λ v. v == s) voters c.0 s (slice_get-get_or voters c
 -- a test of the voters, narrowed to them, counts as many
 narrowed : (p : ℕ → Bool) (voters : List ℕ) → count_by (λ s. p s && is_among voters s) voters ≡ count_by p voters
 narrowed p voters = count_congr_in (λ s. p s && is_among voters s) p voters
-    (λ s c. bool_same (p s && is_among voters s) (p s) (λ h. (and_true (p s) (is_among voters s) h).0) (λ h. ap (λ (x : Bool). x && is_among voters s) h ∙ in_is voters s c))
+    (λ s c. bool_same (p s && is_among voters s) (p s) (λ h. (both (p s) (is_among voters s) h).0) (λ h. ap (λ (x : Bool). x && is_among voters s) h ∙ in_is voters s c))
 
 pub winner_chosen : (n k : ℕ) (voters : List ℕ) (lists : ℕ → List Record) (part : List Voted) (b : Ballot) (e : Entry) → ShowsAt lists n k part → IsWinner part voters k b e → (c : ChosenBy lists voters k e) × (c.ballot ≡ b)
 winner_chosen n k voters lists part b e h w = (
@@ -109,10 +110,10 @@ winner_chosen n k voters lists part b e h w = (
     ballot = b;
     part = λ s. has_text part w.vote.text s && is_among voters s;
     majority = record {
-      within = λ s t. is_in voters s (and_true (has_text part w.vote.text s) (is_among voters s) t).1;
+      within = λ s t. is_in voters s (both (has_text part w.vote.text s) (is_among voters s) t).1;
       more_than_half = omega (arith, w.majority, narrowed (has_text part w.vote.text) voters);
     };
-    taken = λ s t. (text_taken n k lists part h b e w.vote.text w.reads s (and_true (has_text part w.vote.text s) (is_among voters s) t).0).1;
+    taken = λ s t. (text_taken n k lists part h b e w.vote.text w.reads s (both (has_text part w.vote.text s) (is_among voters s) t).0).1;
   },
   refl,
 )

@@ -7,7 +7,7 @@ use Rattle.std.specs.List.{list_all}
 use Rattle.std.specs.Option.{option_map}
 use Rattle.std.proofs.lemmas.Bool.{leb-true, le-leb, ltb-true}
 use Rattle.std.proofs.lemmas.Option.{cond_some}
-use Rattle.ms_base.specs.Options.{◌>>=◌}
+use Rattle.ms_base.specs.Options.{bind_some, both, ◌>>=◌}
 use Rattle.ms_text.specs.Lines.{lines_of, or_wrong, on_or_wrong, read_lines}
 use Rattle.ms_text.specs.Words.{HasNoSpace, WordsAreJoined, two_words, number_at, bytes_at, name_at, spaced}
 use Rattle.ms_replay.specs.DumpLines.{SpellsHead, SpellsRow}
@@ -20,15 +20,6 @@ pub record WordLaws : Type 0 where
   pub read : (most n : ℕ) (word : List ℕ) → most < 2 ^ 64 → number_at most word ≡ Some n → (word ≡ decimal n) × (n ≤ most)
   pub again : (most n : ℕ) (word : List ℕ) → most < 2 ^ 64 → word ≡ decimal n → n ≤ most → number_at most word ≡ Some n
   pub no_space : (n : ℕ) → n < 2 ^ 64 → HasNoSpace (decimal n)
-
-bind_some : {A B : Type 0} (o : Option A) (f : A → Option B) (y : B) → (o >>= f) ≡ Some y → (x : A) × (o ≡ Some x) × (f x ≡ Some y)
-bind_some None f y h = absurd cc
-bind_some (Some x) f y h = (x, refl, h)
-
-both : (a b : Bool) → (a && b) ≡ true → (a ≡ true) × (b ≡ true)
-both true true h = (refl, refl)
-both true false h = absurd cc
-both false b h = absurd cc
 
 abbrev is_no_space : ℕ → Bool
 is_no_space b = not (b == 32)

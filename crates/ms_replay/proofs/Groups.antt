@@ -25,7 +25,8 @@ use Rattle.ms_replay.specs.Tallies.{IsVote, vote_cmp}
 use Rattle.ms_replay.specs.Winners.{AreHere, IsGroup, has_voted, has_text, HasMajority, IsFirstWinner, IsGreatestHere}
 use Rattle.ms_record.specs.BallotOrder.{same_ballot}
 use Rattle.ms_replay.proofs.VoteOrder.{not_before}
-use Rattle.ms_replay.proofs.ListPlaces.{place_take, take_place, drop_place, any_at, at_any, bool_same, and_true, count_congr}
+use Rattle.ms_base.specs.Options.{both}
+use Rattle.ms_replay.proofs.ListPlaces.{place_take, take_place, drop_place, any_at, at_any, bool_same, count_congr}
 
 -- what a vote's text reads as
 pub record Fixes (v : Voted) (k : ℕ) (b : Ballot) (e : Entry) : Type 0 where
@@ -118,18 +119,18 @@ group_votes k part group from to w here g starts is gw s = bool_same (has_voted 
     let t = place_take (to - from) (drop from part) a.0 a.1 (ap (λ (vs : List Voted). slice_get vs a.0) (sym is) ∙ a.2) in
     let at : slice_get part (from + a.0) ≡ Some a.1 = sym (drop_place from part a.0) ∙ t.1 in
     let same = g.same (from + a.0) a.1 w (omega arith) (omega (arith, t.0)) at gw in
-    at_any (λ (v : Voted). bytes_eq v.text w.text && (v.service == s)) part (from + a.0) a.1 at (both _ _ (bytes_same a.1.text w.text same) a.3))
+    at_any (λ (v : Voted). bytes_eq v.text w.text && (v.service == s)) part (from + a.0) a.1 at (together _ _ (bytes_same a.1.text w.text same) a.3))
     (λ h.
     let a = any_at (λ (v : Voted). bytes_eq v.text w.text && (v.service == s)) part h in
-    let t = and_true (bytes_eq a.1.text w.text) (a.1.service == s) a.3 in
+    let t = both (bytes_eq a.1.text w.text) (a.1.service == s) a.3 in
     let l = group_whole k part from to here g starts a.0 a.1 w a.2 gw (same_text a.1.text w.text (sym t.0)) in
     let at : slice_get group (a.0 - from) ≡ Some a.1 =
     ap (λ (vs : List Voted). slice_get vs (a.0 - from)) is ∙ take_place (to - from) (drop from part) (a.0 - from) (omega (arith, l.0, l.1)) ∙ drop_place from part (a.0 - from)
     ∙ ap (slice_get part) (let e : from + (a.0 - from) ≡ a.0 = omega (arith, l.0) in e) ∙ a.2 in
     at_any (λ (v : Voted). v.service == s) group (a.0 - from) a.1 at t.1)
   where
-    both : (a b : Bool) → a ≡ true → b ≡ true → (a && b) ≡ true
-    both a b p q = ap (λ (x : Bool). x && b) p ∙ q
+    together : (a b : Bool) → a ≡ true → b ≡ true → (a && b) ≡ true
+    together a b p q = ap (λ (x : Bool). x && b) p ∙ q
 
 -- so a majority of a group is one of its text
 pub group_majority : (k : ℕ) (voters : List ℕ) (part group : List Voted) (from to : ℕ) (w : Voted) → AreHere k part → IsGroup part from to

@@ -70,10 +70,6 @@ bool_same true b f g = sym (f refl)
 bool_same false true f g = g refl
 bool_same false false f g = refl
 
-pub and_true : (a b : Bool) → (a && b) ≡ true → (a ≡ true) × (b ≡ true)
-and_true true b h = (refl, h)
-and_true false b h = cc
-
 -- counts over the first numbers
 pub count_congr : (p q : ℕ → Bool) (xs : List ℕ) → ((s : ℕ) → p s ≡ q s) → count_by p xs ≡ count_by q xs
 count_congr p q xs h = λ i. count_by (λ (s : ℕ). h s i) xs

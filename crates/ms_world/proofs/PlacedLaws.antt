@@ -16,9 +16,10 @@ use Rattle.ms_core.specs.Placing.{HasObject, OnEnough, want_of, wanted_in, IsOfF
 use Rattle.ms_world.specs.PutTexts.{ArePutsNamed, IsPlacedInLogs, text_of_puts}
 use Rattle.ms_world.specs.Puts.{PutsView, Knows, found_at, text_found, is_on}
 use Rattle.ms_world.specs.Reaching.{IsThere, Meets, Reaches}
+use Rattle.ms_base.specs.Options.{both}
 use Rattle.ms_base.specs.Places.{some_same, append_left, append_cases, in_here, in_later}
 use Rattle.ms_world.proofs.MeetLaws.{stays_met}
-use Rattle.ms_world.proofs.PutLaws.{both_true, name_is, put_where_text, text_from_put, text_is_named}
+use Rattle.ms_world.proofs.PutLaws.{name_is, put_where_text, text_from_put, text_is_named}
 use Rattle.ms_world.proofs.ReachLaws.{OneValue}
 use Rattle.ms_object.specs.declared.object.Object.{Object}
 use Rattle.ms_object.specs.Objects.{Spells, format_of, numbered}
@@ -231,8 +232,8 @@ module _ (logs : List (List LogEvent)) (plan : PlanView) (version : Name) (puts 
       on_enough : (w : Want) → Done puts plan wants w → OnEnough (λ s. HasPut (slice_index_or logs s []) plan.generation w.name) plan
       on_enough w d = record {
         part = λ s. ltb s SERVICES && is_on (found_at puts w.name) s;
-        have = λ s yes. let both = both_true (ltb s SERVICES) (is_on (found_at puts w.name) s) yes in
-            put_where_text plan.generation w.name (slice_index_or logs s []) (sym (knows.services w.name s (ltb-true s SERVICES both.0)) ∙ both.1);
+        have = λ s yes. let found = both (ltb s SERVICES) (is_on (found_at puts w.name) s) yes in
+            put_where_text plan.generation w.name (slice_index_or logs s []) (sym (knows.services w.name s (ltb-true s SERVICES found.0)) ∙ found.1);
         enough = omega (
           arith,
           d.there.enough,

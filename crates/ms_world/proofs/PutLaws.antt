@@ -15,6 +15,7 @@ use Rattle.ms_base.specs.declared.names.Name.{Name}
 use Rattle.ms_world.specs.declared.puts.Found.{Found}
 use Rattle.ms_world.specs.PutTexts.{ArePutsNamed, text_put, text_put_by, text_of_puts}
 use Rattle.ms_world.specs.Puts.{PutsView, AddsTexts, Knows, found_at, text_found, is_on, text_under}
+use Rattle.ms_base.specs.Options.{both}
 use Rattle.ms_base.specs.Places.{some_same, in_none, in_cases, in_here, in_later}
 use Rattle.ms_object.specs.Stores.{name_cmp}
 use Rattle.ms_record.specs.declared.log.LogEvent.{LogEvent}
@@ -141,10 +142,6 @@ put_given g x text name = ap (λ (b : Bool). cond (b && bytes_eq x.0 name.0) (So
 
 -- ---- what is known of a log
 
-pub both_true : (a b : Bool) → (a && b) ≡ true → (a ≡ true) × (b ≡ true)
-both_true true b e = (refl, e)
-both_true false b e = cc
-
 one_put : (h g : ℕ) (x name : Name) (t text : List ℕ) → h ≡ g → x ≡ name → Some t ≡ Some text → Put h x t ≡ Put g name text
 one_put h g x name t text a b e = let is = some_same t text e in λ i. Put (a i) (b i) (is i)
 
@@ -156,8 +153,8 @@ put_from_text g name (Put h x t ∷ log) text e = by ((h == g) && bytes_eq x.0 n
   where
     by : (b : Bool) → ((h == g) && bytes_eq x.0 name.0) ≡ b → (text_put g name log ≡ Some text → Contains log (Put g name text))
         → option_or (cond b (Some t) None) (text_put g name log) ≡ Some text → Contains (Put h x t ∷ log) (Put g name text)
-    by true is later e = let both = both_true (h == g) (bytes_eq x.0 name.0) is in
-        subst (λ (p : LogEvent). Contains (Put h x t ∷ log) p) (one_put h g x name t text (eqb-true h g both.0) (name_is x name both.1) e) (in_here (Put h x t) log)
+    by true is later e = let same = both (h == g) (bytes_eq x.0 name.0) is in
+        subst (λ (p : LogEvent). Contains (Put h x t ∷ log) p) (one_put h g x name t text (eqb-true h g same.0) (name_is x name same.1) e) (in_here (Put h x t) log)
     by false is later e = in_later (Put h x t) log (Put g name text) (later e)
 
 put_is_found : (g : ℕ) (name : Name) (text : List ℕ) → text_put_by g name (Put g name text) ≡ Some text
