@@ -138,7 +138,8 @@ impl Chain {
         ensures ok { OnOk result (self.new ≡ record self.old { members = self.old.members ++ entry.now ∷ [] }) }
         ensures err { OnErr result (self.new ≡ self.old) }
     {
-        self.line.push(entry)
+        self.line.push(entry)?;
+        Ok(())
     }
 
     /// Gains each entry that is chosen at the next position, by what was read, and links on. Answers the split behind the end, if

@@ -73,7 +73,13 @@ pub fn next_of(line: &Line, heard: &Heard) -> Next
         return Next::End;
     }
     match heard.standing(end + 1, &line.voters_behind(end)) {
-        Standing::Chosen { entry } if line.links(&entry) => Next::Member { entry },
+        Standing::Chosen { entry } => {
+            if line.links(&entry) {
+                Next::Member { entry }
+            } else {
+                Next::End
+            }
+        }
         Standing::Split { first, second } => Next::Two {
             split: split_of(end + 1, &first, &second),
         },
@@ -88,10 +94,12 @@ pub fn judged(known: Option<Split>, line: &Line, heard: &Heard, voted: Option<u3
     ensures { (before : List (List (List ℕ))) (service : ℕ) (text : List ℕ) → service < length before → heard.now ≡ heard_more before service text
         → IsVotedAt (lists_of before service) (record_at text) voted → SplitIs (chain_of line.now before) known → SplitIs (chain_of line.now heard.now) result }
 {
-    if known.is_some() {
-        return known;
+    if let Some(split) = known {
+        return Some(split);
     }
-    let position = voted?;
+    let Some(position) = voted else {
+        return None;
+    };
     if position == 0 || position > line.end() {
         return None;
     }
