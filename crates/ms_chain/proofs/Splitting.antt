@@ -1,13 +1,14 @@
 -- Where a chain is split, when it reads on and when it gains a member.
 use Rattle.std.proofs.Common.{◌≡◌, ℕ, ◌+◌, ◌-◌, ◌*◌, ◌<◌, ◌≤◌, true, List, [], ◌∷◌, ◌++◌, Option, Some, None, ◌⊎◌, inl, inr, refl, sym, ap, ◌∙◌, subst, slice_get, length, take, count_by, arith, Contains}
 use Rattle.std.specs.Prelude.{IfNone, IfSome}
+use Rattle.std.specs.Option.{option_or}
 use mathlib.Core.List.{IsPrefix}
 use Rattle.std.proofs.lemmas.Bool.{cases_eq, cases_lt}
 use Rattle.std.proofs.lemmas.List.FromFn.{length-range_with_len, get_or-range_with_len}
 use Rattle.std.proofs.lemmas.Option.{slice_get_within}
 use Rattle.ms_base.specs.declared.limits.TheConstants.{LAST_NUMBER}
 use Rattle.ms_ken.specs.Prefixes.{prefix_item, prefix_self, prefix_trans}
-use Rattle.ms_local.specs.Learning.{ChainGrows, ChainView, IsNextRead, IsSplit, IsWhole, texts_read, votes_read}
+use Rattle.ms_local.specs.Learning.{ChainGrows, ChainView, IsNextRead, IsSeen, IsSplit, texts_read, votes_read}
 use Rattle.ms_record.specs.declared.entry.Entry.{Entry}
 use Rattle.ms_record.specs.declared.record.Record.{Record}
 use Rattle.ms_record.specs.declared.record.Record.TheVariants.{Accept}
@@ -23,9 +24,9 @@ use Rattle.ms_replay.specs.declared.standing.Standing.TheVariants.{Chosen, Seen,
 use Rattle.ms_replay.specs.Standings.{IsFirstChosen, IsStanding, NoneChosen, NoneTaken}
 use Rattle.ms_replay.specs.Tallies.{IsVotedAt}
 use Rattle.ms_chain.specs.declared.split.Split.{Split}
-use Rattle.ms_chain.specs.Heard.{heard_more}
+use Rattle.ms_chain.specs.Heard.{IsGreatestSeen, heard_more}
 use Rattle.ms_chain.specs.Lines.{LineView}
-use Rattle.ms_chain.specs.Splits.{IsSplitOf, SplitIs, SplitsAt, chain_of}
+use Rattle.ms_chain.specs.Splits.{BehindIs, IsSplitOf, SplitIs, SplitsAt, chain_of}
 use Rattle.ms_chain.proofs.Hearing.{GoesOnAt, chosen_back, chosen_on, heard_goes_on}
 use Rattle.ms_chain.proofs.Places.{length_more, place_left, place_more, some_passes, take_all, take_left}
 
@@ -211,3 +212,23 @@ grows_on old mid e h next = record {
           n.only h (subst D (sym same) c) ∙ one;
       links = subst (λ (zs : List Entry). LinksBehind (origin_of mid.setting) zs g) same (subst (λ (x : Entry). LinksBehind (origin_of mid.setting) xs x) one n.links);
     }
+
+-- ---- what is known of all positions
+
+pub neither : (known behind : Option Split) → option_or known behind ≡ None → (known ≡ None) × (behind ≡ None)
+neither None None e = (refl, refl)
+neither None (Some split) e = absurd (cc e)
+neither (Some split) behind e = absurd (cc e)
+
+pub none_split : (chain : ChainView) → SplitIs chain None → BehindIs chain None → (k : ℕ) (first second : List ℕ) → IsSplit chain k first second → ⊥
+none_split chain known behind k first second s =
+    let within = s.within in
+    let at = s.at in
+    elim (cases_lt (length chain.members) k) [
+      | inl lt ↦ behind (first, second, subst (λ (p : ℕ). IsSplit chain p first second) (let e : k ≡ length chain.members + 1 = omega arith in e) s)
+      | inr le ↦ known k le (first, second, s)
+    ]
+
+-- what the lists show, as a chain's
+pub seen_in : (line : LineView) (lists : List (List (List ℕ))) (seen : ℕ) → IsGreatestSeen (lists_of lists) seen → IsSeen (chain_of line lists) seen
+seen_in line lists seen h = record { none_above = h.none_above; stands = h.stands }
