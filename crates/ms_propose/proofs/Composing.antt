@@ -128,11 +128,6 @@ link_faults (Some x) (Some y) each some =
     let same : x ≡ h.0 = (let q : Some x ≡ Some h.0 = h.1 in cc) in
     omega (arith, h.2.later, ap (λ (l : LinkView). l.faults) same)
 
-got_at : {X : Type 0} (xs : List X) (k : ℕ) (x : X) → slice_get xs k ≡ Some x → (d : X) → slice_index_or xs k d ≡ x
-got_at [] k x e d = absurd cc
-got_at (y ∷ xs) zero x e d = (let q : y ≡ x = cc in q)
-got_at (y ∷ xs) (suc k) x e d = got_at xs k x e d
-
 has_at : {X : Type 0} (xs ys : List X) (k : ℕ) (x : X) → length ys ≡ length xs → slice_get xs k ≡ Some x → slice_get ys k ≢ None
 has_at [] ys k x same e n = absurd cc
 has_at (z ∷ xs) [] k x same e n = absurd (omega (arith, same))

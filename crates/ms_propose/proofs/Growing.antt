@@ -29,6 +29,7 @@ use Rattle.ms_record.specs.Logs.{vote_texts}
 use Rattle.ms_record.specs.Offers.{IsOffered}
 use Rattle.ms_record.specs.Reading.{record_at, votes_of, with_record}
 use Rattle.ms_record.specs.Settings.{origin_of}
+use Rattle.ms_propose.proofs.Lists.{flag_none}
 use Rattle.ms_propose.proofs.Composing.{sight_on, votes_begin}
 use Rattle.ms_propose.specs.TrueBids.{AreTrue, HasOffer, IsNewest, IsSeated, IsTrueBid}
 use Rattle.ms_local.specs.Truths.{IsTrueSight}
@@ -42,9 +43,7 @@ none_seen (suc n) zero x e = absurd cc
 none_seen (suc n) (suc s) x e = none_seen n s x e
 
 none_set : (n s : ℕ) → flag_at (replicate n false) s ≡ true → ⊥
-none_set zero s e = absurd cc
-none_set (suc n) zero e = absurd cc
-none_set (suc n) (suc s) e = none_set n s e
+none_set n s e = absurd (let q : false ≡ true = sym (flag_none n s) ∙ e in cc)
 
 flag_set : (flags : List Bool) (s j : ℕ) → flag_at (slice_set flags s true) j ≡ true → (j ≡ s) ⊎ (flag_at flags j ≡ true)
 flag_set [] s j e = inr e

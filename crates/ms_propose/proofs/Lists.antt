@@ -1,10 +1,11 @@
 -- Fronts of lists of flags and of sights.
-use Rattle.std.proofs.Common.{◌≡◌, ℕ, zero, suc, ◌+◌, ◌*◌, ◌≤◌, ◌<◌, ◌==◌, Bool, true, false, cond, List, [], ◌∷◌, Some, refl, sym, ap, ◌∙◌, length, take, slice_set, slice_get, slice_index_or, count_by, replicate, arith}
+use Rattle.std.proofs.Common.{◌≡◌, ℕ, zero, suc, ◌+◌, ◌*◌, ◌≤◌, ◌<◌, ◌==◌, Bool, true, false, cond, List, [], ◌∷◌, refl, sym, ap, ◌∙◌, length, take, slice_set, slice_index_or, count_by, replicate, arith}
 use Rattle.std.specs.Prelude.{Contains, ◌||◌}
 use Rattle.std.specs.List.{list_any}
 use Rattle.std.proofs.lemmas.List.{get_or-take, take-replicate}
 use Rattle.std.proofs.lemmas.List.Sums.{sum_by-cons}
 use Rattle.std.proofs.lemmas.Bool.Decides.{nat_tests}
+use Rattle.ms_base.specs.Places.{in_here, in_later}
 
 -- a front of a list with one place set
 pub take_set : {X : Type 0} (n : ℕ) (xs : List X) (s : ℕ) (x : X) → take n (slice_set xs s x) ≡ slice_set (take n xs) s x
@@ -21,21 +22,21 @@ take_at n xs s d l = get_or-take n xs s d l
 pub take_fresh : {X : Type 0} (n : ℕ) (x : X) → n ≤ 16 → take n (replicate 16 x) ≡ replicate n x
 take_fresh n x l = take-replicate n 16 x l
 
+-- no flag is set before the first is
+pub flag_none : (n s : ℕ) → slice_index_or (replicate n false) s false ≡ false
+flag_none zero s = refl
+flag_none (suc n) zero = refl
+flag_none (suc n) (suc s) = flag_none n s
+
 count_cons : (p : ℕ → Bool) (x : ℕ) (xs : List ℕ) → count_by p (x ∷ xs) ≡ cond (p x) 1 0 + count_by p xs
 count_cons p x xs = sum_by-cons (λ s. cond (p s) 1 0) x xs
-
-head_is : (x : ℕ) (xs : List ℕ) → Contains (x ∷ xs) x
-head_is x xs = (zero, omega arith, refl)
-
-tail_is : (x : ℕ) (xs : List ℕ) (s : ℕ) → Contains xs s → Contains (x ∷ xs) s
-tail_is x xs s h = (suc h.0, omega (arith, h.1), h.2)
 
 -- tests that agree at each of the voters count alike
 pub count_same : (p q : ℕ → Bool) (voters : List ℕ) → ((s : ℕ) → Contains voters s → p s ≡ q s) → count_by p voters ≡ count_by q voters
 count_same p q [] h = refl
 count_same p q (x ∷ xs) h =
-    count_cons p x xs ∙ (ap (λ (b : Bool). cond b 1 0 + count_by p xs) (h x (head_is x xs))
-    ∙ (ap (λ (k : ℕ). cond (q x) 1 0 + k) (count_same p q xs (λ s c. h s (tail_is x xs s c))) ∙ sym (count_cons q x xs)))
+    count_cons p x xs ∙ (ap (λ (b : Bool). cond b 1 0 + count_by p xs) (h x (in_here x xs))
+    ∙ (ap (λ (k : ℕ). cond (q x) 1 0 + k) (count_same p q xs (λ s c. h s (in_later x xs s c))) ∙ sym (count_cons q x xs)))
 
 -- two tests that more than half of the voters pass have a voter in common
 meet_step : (p q : ℕ → Bool) (x : ℕ) (xs : List ℕ) (a b : Bool) → p x ≡ a → q x ≡ b
@@ -59,7 +60,7 @@ is_member [] s h = absurd cc
 is_member (x ∷ xs) s h = by (x == s) refl h (is_member xs s) where
   by : (t : Bool) → (x == s) ≡ t → (t || list_any (λ v. v == s) xs) ≡ true → (list_any (λ v. v == s) xs ≡ true → Contains xs s) → Contains (x ∷ xs) s
   by true e k rest = (zero, omega arith, grind (arith, nat_tests, e))
-  by false e k rest = tail_is x xs s (rest k)
+  by false e k rest = in_later x xs s (rest k)
 
 pub member_is : (voters : List ℕ) (s : ℕ) → Contains voters s → list_any (λ v. v == s) voters ≡ true
 member_is [] s h = absurd (omega (arith, h.1))
@@ -68,16 +69,3 @@ member_is (x ∷ xs) s (suc k, l, e) = by (x == s) (member_is xs s (k, omega (ar
   by : (t : Bool) → list_any (λ v. v == s) xs ≡ true → (t || list_any (λ v. v == s) xs) ≡ true
   by true h = refl
   by false h = h
-
--- an item of a list has a place, and an item at a place is one of the list
-pub place_of : {X : Type 0} (xs : List X) (x : X) → Contains xs x → (place : ℕ) × (slice_get xs place ≡ Some x)
-place_of xs x h = (h.0, got xs h.0 x h.1 h.2) where
-  got : {X : Type 0} (ys : List X) (k : ℕ) (y : X) → k < length ys → slice_index_or ys k y ≡ y → slice_get ys k ≡ Some y
-  got [] k y l e = absurd (omega (arith, l))
-  got (z ∷ ys) zero y l e = ap Some e
-  got (z ∷ ys) (suc k) y l e = got ys k y (omega (arith, l)) e
-
-pub contains_at : {X : Type 0} (xs : List X) (place : ℕ) (x : X) → slice_get xs place ≡ Some x → Contains xs x
-contains_at [] place x e = absurd cc
-contains_at (y ∷ xs) zero x e = (zero, omega arith, (let q : y ≡ x = cc in q))
-contains_at (y ∷ xs) (suc place) x e = let h = contains_at xs place x e in (suc h.0, omega (arith, h.1), h.2)

@@ -1,7 +1,7 @@
 -- The deeds of a bid keep the rules.
-use Rattle.std.proofs.Common.{◌≡◌, ◌≢◌, ℕ, zero, suc, ◌+◌, ◌-◌, ◌≤◌, ◌<◌, Bool, true, false, List, [], ◌∷◌, ◌++◌, Option, Some, None, refl, sym, ap, ◌∙◌, subst, length, take, slice_set, slice_index_or, replicate, max, arith}
+use Rattle.std.proofs.Common.{◌≡◌, ◌≢◌, ℕ, ◌+◌, ◌-◌, ◌≤◌, ◌<◌, Bool, true, false, List, [], ◌∷◌, ◌++◌, Option, Some, None, refl, sym, ap, ◌∙◌, subst, length, take, slice_set, slice_index_or, replicate, max, arith}
 use Rattle.std.specs.Prelude.{Contains}
-use Rattle.std.proofs.lemmas.List.{length-take-le, length-replicate}
+use Rattle.std.proofs.lemmas.List.{get_or-set_other, length-take-le, length-replicate}
 use Rattle.std.proofs.lemmas.List.Elements.{All-push}
 use Rattle.ms_base.specs.declared.names.ServiceId.{ServiceId}
 use Rattle.ms_record.specs.declared.ballot.Ballot.{Ballot}
@@ -25,7 +25,7 @@ use Rattle.ms_local.specs.Rules.{Bidding, Did, Intent, IsAsked, IsOfferOf, Step,
 use Rattle.ms_propose.specs.declared.acts.Aim.{Aim}
 use Rattle.ms_propose.specs.Acts.{deed_of, kept_round}
 use Rattle.ms_propose.specs.Bidding.{BidHalted, BidMade, BidRuns, Ends, EndsAs, IsBidOf, Mirrors, bidding_of, offer_record}
-use Rattle.ms_propose.proofs.Lists.{take_at, take_fresh, take_set}
+use Rattle.ms_propose.proofs.Lists.{flag_none, take_at, take_fresh, take_set}
 use Rattle.ms_propose.proofs.Offering.{offer_rule}
 
 -- where a message is to be sent, no service from that one on was sent it
@@ -179,18 +179,6 @@ goes_on who n few b below round (End outcome) answer next mine f p unsent ok oth
 
 -- ---- nothing is sent twice
 
-flag_none : (n s : ℕ) → flag_at (replicate n false) s ≡ false
-flag_none zero s = refl
-flag_none (suc n) zero = refl
-flag_none (suc n) (suc s) = flag_none n s
-
-flag_other : (flags : List Bool) (s j : ℕ) → s < j → flag_at (slice_set flags s true) j ≡ flag_at flags j
-flag_other [] s j l = refl
-flag_other (f ∷ flags) zero zero l = absurd (omega (arith, l))
-flag_other (f ∷ flags) zero (suc j) l = refl
-flag_other (f ∷ flags) (suc s) zero l = absurd (omega (arith, l))
-flag_other (f ∷ flags) (suc s) (suc j) l = flag_other flags s j (omega (arith, l))
-
 pub unsent_fresh : (sent : List Bool) (act : Act) → sent ≡ replicate 16 false → UnsentAt sent act
 unsent_fresh sent (Send service message) is = λ s above. ap (λ (f : List Bool). flag_at f s) is ∙ flag_none 16 s
 unsent_fresh sent (Keep round) is = tt
@@ -221,7 +209,7 @@ module _ (offer : Option Entry) (sent : List Bool) where
 pub unsent_on : (b : Bid) (act : Act) (answer : Answer) (next : Act) → IsPending b act → fits act answer ≡ true → ((r : ℕ) → act ≡ Keep r → ⊥) → UnsentAt b.sent act
     → left_at (noted b act answer).offer next < left_at b.offer act → UnsentAt (noted b act answer).sent next
 unsent_on b (Keep r) answer next p ok other unsent less = absurd (other r refl)
-unsent_on b (Send service message) Sent next p ok other unsent less = unsent_behind b.offer b.sent service (slice_set b.sent service.0 true) next (λ s up. flag_other b.sent service.0 s up) less unsent
+unsent_on b (Send service message) Sent next p ok other unsent less = unsent_behind b.offer b.sent service (slice_set b.sent service.0 true) next (λ s up. get_or-set_other b.sent service.0 s true false (λ e. omega (arith, up, e))) less unsent
 unsent_on b (Send service message) Failed next p ok other unsent less = unsent_behind b.offer b.sent service b.sent next (λ s up. refl) less unsent
 unsent_on b (Look service) (Seen sight) next p ok other unsent less = by b.offer less where
   by : (o : Option Entry) → left_at (with_sight b o service.0 sight).offer next < left_at b.offer (Look service) → UnsentAt (with_sight b o service.0 sight).sent next

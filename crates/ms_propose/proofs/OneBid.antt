@@ -38,10 +38,10 @@ use Rattle.ms_local.specs.Keeping.{HasRanges}
 use Rattle.ms_local.specs.Rules.{Bidding, Intent}
 use Rattle.ms_propose.specs.declared.acts.Aim.{Aim}
 use Rattle.ms_propose.specs.Acts.{DoesAct, Halts, MayDo, MayHaveKept, kept_round, with_round}
-use Rattle.ms_propose.specs.Bidding.{BidHalted, BidMade, BidRuns, IsBidOf}
+use Rattle.ms_propose.specs.Bidding.{intent_of, BidHalted, BidMade, BidRuns, IsBidOf}
 use Rattle.ms_propose.proofs.Composing.{bids_client, bids_on, bids_services, history_on, kept_there_self, leaves_on, leaves_quiet, told_back}
 use Rattle.ms_propose.specs.Going.{DeskBids}
-use Rattle.ms_propose.specs.Leaving.{Bids, IsBidDeed, Shows, slack_of}
+use Rattle.ms_propose.specs.Leaving.{Bids, IsBidDeed, IsSettingOf, Shows, slack_of}
 use Rattle.ms_local.specs.Desks.{OnTold, OnTold'}
 use Rattle.ms_propose.specs.TrueBids.{HasEntries, HasOffer, IsSeated, IsTrueBid}
 use Rattle.ms_local.specs.Truths.{IsStateAt, IsTrueDeed, OwnHistory, TrueDeeds, ballot_at}
@@ -63,6 +63,26 @@ pub record IsBidder (intent : Intent) (aim : Aim) (first : DeskView) (before : K
   pub state : IsStateAt 0 first before
   pub ranges : HasRanges before
   pub seated : OnTold' first (λ setting. IsSeated setting first.pass.lists aim.position intent.voters intent.want)
+
+-- the bid of the round behind the kept one
+abbrev pub next_aim : DeskView → Kept → ℕ → Aim
+next_aim first before position = record { position = position; ballot = ballot_at first.client (before.round + 1) }
+
+pub bidder : (first : DeskView) (before : Kept) (setting : Setting) (want : Option Entry) (voters : List ℕ) (position : ℕ) → IsDesk first → IsSettingOf setting first → IsPosition position → before.round < LAST_NUMBER
+    → ((s : ℕ) → Contains voters s → s < setting.services) → OnTold' first (λ s. IsSeated s first.pass.lists position voters want) → IsStateAt 0 first before → HasRanges before → ((e : Entry) → want ≡ Some e → IsEntry e)
+    → IsBidder (intent_of want voters position) (next_aim first before position) first before
+bidder first before setting want voters position desk of placed last below seated state ranges entry = record {
+  desk = desk;
+  position = placed;
+  placed = refl;
+  ballot = refl;
+  last = last;
+  voters = λ s v. omega (arith, below s v, of.services);
+  entry = entry;
+  state = state;
+  ranges = ranges;
+  seated = seated;
+}
 
 -- what is true of a bid under way
 pub record BidGoes (intent : Intent) (aim : Aim) (first now : DeskView) (before kept : Kept) (b : Bid) : Type 0 where

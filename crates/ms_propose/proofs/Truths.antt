@@ -5,6 +5,7 @@ use Rattle.std.proofs.lemmas.Bool.{cases_lt}
 use Rattle.std.proofs.lemmas.Option.{slice_get_within}
 use mathlib.Core.List.{IsPrefix}
 use Rattle.ms_base.specs.declared.names.ServiceId.{ServiceId}
+use Rattle.ms_base.specs.Places.{at_contains, contains_at}
 use Rattle.ms_bid.specs.declared.act.Act.{Act}
 use Rattle.ms_bid.specs.declared.act.Act.TheVariants.{Declare, End}
 use Rattle.ms_bid.specs.declared.act.Outcome.TheVariants.{Decided, Nothing, Unlisted}
@@ -34,7 +35,7 @@ use Rattle.ms_record.specs.Sights.{IsSight, ShowsPromise, ShowsTaken}
 use Rattle.ms_record.specs.Votes.{ChosenBy, IsBest, IsTaken, NoneAbove, ballot_of, position_of}
 use Rattle.ms_propose.specs.TrueBids.{AreListed, AreTrue, HasOffer, IsNewest, IsTrueBid}
 use Rattle.ms_local.specs.Truths.{IsTrueSight}
-use Rattle.ms_propose.proofs.Lists.{contains_at, halves_meet, place_of}
+use Rattle.ms_propose.proofs.Lists.{halves_meet}
 
 -- what is known of a view that tells this setting
 pub record ViewLaws (setting : Setting) (view : View) : Type 0 where
@@ -74,7 +75,7 @@ module _ (low lists : View) (k : ℕ) (b : Ballot) where
 -- the offer of a ballot that is newer than each offer of its client was not made
 not_offered : (lists : View) (k : ℕ) (b : Ballot) (e : Entry) → IsNewest lists b → IsOffered (offers_told lists) k b e → ⊥
 not_offered lists k b e newest o =
-    let l = newest k b e (contains_at (offers_told lists b.client.0) o.0 (Accept k b e) o.1) in absurd (omega (arith, l))
+    let l = newest k b e (at_contains (offers_told lists b.client.0) o.0 (Accept k b e) o.1) in absurd (omega (arith, l))
 
 -- before the declaration
 pub newest_of : (lists : View) (k : ℕ) (b : Ballot) (offer : Option Entry) → HasOffer lists k b offer → offer ≡ None → IsNewest lists b
@@ -215,7 +216,7 @@ pub shows_or_greater : (list : List Record) (k : ℕ) (b : Ballot) (offer : Opti
     → (top : Ballot) × ShowsGreater b (Some x) top
 shows_or_greater list k b offer x seen there missing = by x.top refl seen.top where
   here : (place : ℕ) × (slice_get list place ≡ Some (message_of k b offer))
-  here = place_of list (message_of k b offer) there
+  here = contains_at list (message_of k b offer) there
 
   at_position : (o : Option Entry) → position_of (message_of k b o) ≡ k
   at_position None = refl

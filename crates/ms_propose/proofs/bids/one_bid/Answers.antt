@@ -1,4 +1,4 @@
-use Rattle.std.proofs.Common.{◌+◌, refl, sym, ap, ◌∙◌, subst, arith}
+use Rattle.std.proofs.Common.{◌+◌, sym, ap, ◌∙◌, subst, arith}
 use Rattle.ms_bid.specs.declared.act.Act.{Act}
 use Rattle.ms_bid.specs.declared.act.Act.TheVariants.{Keep}
 use Rattle.ms_bid.specs.declared.act.Answer.{Answer}
@@ -6,11 +6,10 @@ use Rattle.ms_bid.specs.Bids.{left_at}
 use Rattle.ms_local.specs.Desks.{KnowsTold, desk_view}
 use Rattle.ms_local.specs.Rules.{Intent}
 use Rattle.ms_record.specs.declared.setting.Setting.{Setting}
-use Rattle.ms_propose.specs.declared.acts.Aim.{Aim}
 use Rattle.ms_propose.specs.Acts.{DoesAct, Halts, MayDo}
 use Rattle.ms_propose.specs.Bidding.{intent_of}
 use Rattle.ms_propose.proofs.Mirroring.{no_fault}
-use Rattle.ms_propose.proofs.OneBid.{IsBidder, bid_ends, bid_halts, bid_step, first_failed, first_halts, first_kept, first_may, kept_answer, list_there, may_do, same_but_act}
+use Rattle.ms_propose.proofs.OneBid.{bid_ends, bid_halts, bid_step, bidder, first_failed, first_halts, first_kept, first_may, kept_answer, list_there, may_do, next_aim, same_but_act}
 use Rattle.ms_propose.proofs.Truths.{ViewLaws}
 use Rattle.ms_propose.proofs.bids.one_bid.Goals as goal
 
@@ -20,19 +19,9 @@ keep_round-requires-clause-may g c =
     let first = sees c.args.desk.now in
     let before = c.args.kept.now in
     let intent : Intent = intent_of c.args.want c.args.voters.now c.args.position in
-    let aim : Aim = record { position = c.args.position; ballot = record { round = before.round + 1; client = c.args.desk.now.client } } in
-    let h : IsBidder intent aim first before = record {
-      desk = c.requires.desk;
-      position = c.requires.position;
-      placed = refl;
-      ballot = refl;
-      last = c.requires.round;
-      voters = λ s v. omega (arith, c.requires.voters s v, c.requires.setting.services);
-      entry = c.requires.entry;
-      state = c.requires.state;
-      ranges = c.requires.ranges;
-      seated = c.requires.seated;
-    } in
+    let aim = next_aim first before c.args.position in
+    let r = c.requires in
+    let h = bidder first before c.args.setting.now c.args.want c.args.voters.now c.args.position r.desk r.setting r.position r.round r.voters r.seated r.state r.ranges r.entry in
     first_may intent aim first before h
 
 pub returns-in-Err-clause-broken : goal.returns-in-Err-clause-broken
@@ -41,19 +30,9 @@ returns-in-Err-clause-broken g c =
     let first = sees c.args.desk.now in
     let before = c.args.kept.now in
     let intent : Intent = intent_of c.args.want c.args.voters.now c.args.position in
-    let aim : Aim = record { position = c.args.position; ballot = record { round = before.round + 1; client = c.args.desk.now.client } } in
-    let h : IsBidder intent aim first before = record {
-      desk = c.requires.desk;
-      position = c.requires.position;
-      placed = refl;
-      ballot = refl;
-      last = c.requires.round;
-      voters = λ s v. omega (arith, c.requires.voters s v, c.requires.setting.services);
-      entry = c.requires.entry;
-      state = c.requires.state;
-      ranges = c.requires.ranges;
-      seated = c.requires.seated;
-    } in
+    let aim = next_aim first before c.args.position in
+    let r = c.requires in
+    let h = bidder first before c.args.setting.now c.args.want c.args.voters.now c.args.position r.desk r.setting r.position r.round r.voters r.seated r.state r.ranges r.entry in
     (first_halts intent aim first before h (sees c.keep_round.new.desk) c.keep_round.new.kept c.in-Err.ensures.acts).1
 
 pub returns-in-Err-clause-leaves : goal.returns-in-Err-clause-leaves
@@ -62,19 +41,9 @@ returns-in-Err-clause-leaves g c =
     let first = sees c.args.desk.now in
     let before = c.args.kept.now in
     let intent : Intent = intent_of c.args.want c.args.voters.now c.args.position in
-    let aim : Aim = record { position = c.args.position; ballot = record { round = before.round + 1; client = c.args.desk.now.client } } in
-    let h : IsBidder intent aim first before = record {
-      desk = c.requires.desk;
-      position = c.requires.position;
-      placed = refl;
-      ballot = refl;
-      last = c.requires.round;
-      voters = λ s v. omega (arith, c.requires.voters s v, c.requires.setting.services);
-      entry = c.requires.entry;
-      state = c.requires.state;
-      ranges = c.requires.ranges;
-      seated = c.requires.seated;
-    } in
+    let aim = next_aim first before c.args.position in
+    let r = c.requires in
+    let h = bidder first before c.args.setting.now c.args.want c.args.voters.now c.args.position r.desk r.setting r.position r.round r.voters r.seated r.state r.ranges r.entry in
     (first_halts intent aim first before h (sees c.keep_round.new.desk) c.keep_round.new.kept c.in-Err.ensures.acts).0
 
 pub acts-init : goal.acts-init
@@ -83,19 +52,9 @@ acts-init g c =
     let first = sees c.args.desk.now in
     let before = c.args.kept.now in
     let intent : Intent = intent_of c.args.want c.args.voters.now c.args.position in
-    let aim : Aim = record { position = c.args.position; ballot = record { round = before.round + 1; client = c.args.desk.now.client } } in
-    let h : IsBidder intent aim first before = record {
-      desk = c.requires.desk;
-      position = c.requires.position;
-      placed = refl;
-      ballot = refl;
-      last = c.requires.round;
-      voters = λ s v. omega (arith, c.requires.voters s v, c.requires.setting.services);
-      entry = c.requires.entry;
-      state = c.requires.state;
-      ranges = c.requires.ranges;
-      seated = c.requires.seated;
-    } in
+    let aim = next_aim first before c.args.position in
+    let r = c.requires in
+    let h = bidder first before c.args.setting.now c.args.want c.args.voters.now c.args.position r.desk r.setting r.position r.round r.voters r.seated r.state r.ranges r.entry in
     let now = sees c.keep_round.new.desk in
     let answer = c.in-Ok.first in
     let does = c.in-Ok.ensures.acts in
@@ -112,19 +71,9 @@ perform-requires-clause-may g c =
     let first = sees c.args.desk.now in
     let before = c.args.kept.now in
     let intent : Intent = intent_of c.args.want c.args.voters.now c.args.position in
-    let aim : Aim = record { position = c.args.position; ballot = record { round = before.round + 1; client = c.args.desk.now.client } } in
-    let h : IsBidder intent aim first before = record {
-      desk = c.requires.desk;
-      position = c.requires.position;
-      placed = refl;
-      ballot = refl;
-      last = c.requires.round;
-      voters = λ s v. omega (arith, c.requires.voters s v, c.requires.setting.services);
-      entry = c.requires.entry;
-      state = c.requires.state;
-      ranges = c.requires.ranges;
-      seated = c.requires.seated;
-    } in
+    let aim = next_aim first before c.args.position in
+    let r = c.requires in
+    let h = bidder first before c.args.setting.now c.args.want c.args.voters.now c.args.position r.desk r.setting r.position r.round r.voters r.seated r.state r.ranges r.entry in
     let now = sees c.acts.desk in
     let kept = c.acts.kept in
     let b = c.acts.proposer in
@@ -145,19 +94,9 @@ returns-in-Failed-clause-made g c =
     let first = sees c.args.desk.now in
     let before = c.args.kept.now in
     let intent : Intent = intent_of c.args.want c.args.voters.now c.args.position in
-    let aim : Aim = record { position = c.args.position; ballot = record { round = before.round + 1; client = c.args.desk.now.client } } in
-    let h : IsBidder intent aim first before = record {
-      desk = c.requires.desk;
-      position = c.requires.position;
-      placed = refl;
-      ballot = refl;
-      last = c.requires.round;
-      voters = λ s v. omega (arith, c.requires.voters s v, c.requires.setting.services);
-      entry = c.requires.entry;
-      state = c.requires.state;
-      ranges = c.requires.ranges;
-      seated = c.requires.seated;
-    } in
+    let aim = next_aim first before c.args.position in
+    let r = c.requires in
+    let h = bidder first before c.args.setting.now c.args.want c.args.voters.now c.args.position r.desk r.setting r.position r.round r.voters r.seated r.state r.ranges r.entry in
     let does = subst (λ (x : Answer). DoesAct aim (Keep (before.round + 1)) x first (sees c.keep_round.new.desk) before c.keep_round.new.kept) c.in-Failed.is c.in-Ok.ensures.acts in
     (first_failed intent aim first before h (sees c.keep_round.new.desk) c.keep_round.new.kept does).2
 
@@ -167,19 +106,9 @@ returns-in-Failed-clause-leaves g c =
     let first = sees c.args.desk.now in
     let before = c.args.kept.now in
     let intent : Intent = intent_of c.args.want c.args.voters.now c.args.position in
-    let aim : Aim = record { position = c.args.position; ballot = record { round = before.round + 1; client = c.args.desk.now.client } } in
-    let h : IsBidder intent aim first before = record {
-      desk = c.requires.desk;
-      position = c.requires.position;
-      placed = refl;
-      ballot = refl;
-      last = c.requires.round;
-      voters = λ s v. omega (arith, c.requires.voters s v, c.requires.setting.services);
-      entry = c.requires.entry;
-      state = c.requires.state;
-      ranges = c.requires.ranges;
-      seated = c.requires.seated;
-    } in
+    let aim = next_aim first before c.args.position in
+    let r = c.requires in
+    let h = bidder first before c.args.setting.now c.args.want c.args.voters.now c.args.position r.desk r.setting r.position r.round r.voters r.seated r.state r.ranges r.entry in
     let does = subst (λ (x : Answer). DoesAct aim (Keep (before.round + 1)) x first (sees c.keep_round.new.desk) before c.keep_round.new.kept) c.in-Failed.is c.in-Ok.ensures.acts in
     (first_failed intent aim first before h (sees c.keep_round.new.desk) c.keep_round.new.kept does).0
 
@@ -189,19 +118,9 @@ returns-in-End-clause-made g c =
     let first = sees c.args.desk.now in
     let before = c.args.kept.now in
     let intent : Intent = intent_of c.args.want c.args.voters.now c.args.position in
-    let aim : Aim = record { position = c.args.position; ballot = record { round = before.round + 1; client = c.args.desk.now.client } } in
-    let h : IsBidder intent aim first before = record {
-      desk = c.requires.desk;
-      position = c.requires.position;
-      placed = refl;
-      ballot = refl;
-      last = c.requires.round;
-      voters = λ s v. omega (arith, c.requires.voters s v, c.requires.setting.services);
-      entry = c.requires.entry;
-      state = c.requires.state;
-      ranges = c.requires.ranges;
-      seated = c.requires.seated;
-    } in
+    let aim = next_aim first before c.args.position in
+    let r = c.requires in
+    let h = bidder first before c.args.setting.now c.args.want c.args.voters.now c.args.position r.desk r.setting r.position r.round r.voters r.seated r.state r.ranges r.entry in
     let now = sees c.acts.desk in
     let kept = c.acts.kept in
     let b = c.acts.proposer in
@@ -221,19 +140,9 @@ returns-in-End-clause-shows g c =
     let first = sees c.args.desk.now in
     let before = c.args.kept.now in
     let intent : Intent = intent_of c.args.want c.args.voters.now c.args.position in
-    let aim : Aim = record { position = c.args.position; ballot = record { round = before.round + 1; client = c.args.desk.now.client } } in
-    let h : IsBidder intent aim first before = record {
-      desk = c.requires.desk;
-      position = c.requires.position;
-      placed = refl;
-      ballot = refl;
-      last = c.requires.round;
-      voters = λ s v. omega (arith, c.requires.voters s v, c.requires.setting.services);
-      entry = c.requires.entry;
-      state = c.requires.state;
-      ranges = c.requires.ranges;
-      seated = c.requires.seated;
-    } in
+    let aim = next_aim first before c.args.position in
+    let r = c.requires in
+    let h = bidder first before c.args.setting.now c.args.want c.args.voters.now c.args.position r.desk r.setting r.position r.round r.voters r.seated r.state r.ranges r.entry in
     let now = sees c.acts.desk in
     let kept = c.acts.kept in
     let b = c.acts.proposer in
@@ -253,19 +162,9 @@ returns-in-End-clause-leaves g c =
     let first = sees c.args.desk.now in
     let before = c.args.kept.now in
     let intent : Intent = intent_of c.args.want c.args.voters.now c.args.position in
-    let aim : Aim = record { position = c.args.position; ballot = record { round = before.round + 1; client = c.args.desk.now.client } } in
-    let h : IsBidder intent aim first before = record {
-      desk = c.requires.desk;
-      position = c.requires.position;
-      placed = refl;
-      ballot = refl;
-      last = c.requires.round;
-      voters = λ s v. omega (arith, c.requires.voters s v, c.requires.setting.services);
-      entry = c.requires.entry;
-      state = c.requires.state;
-      ranges = c.requires.ranges;
-      seated = c.requires.seated;
-    } in
+    let aim = next_aim first before c.args.position in
+    let r = c.requires in
+    let h = bidder first before c.args.setting.now c.args.want c.args.voters.now c.args.position r.desk r.setting r.position r.round r.voters r.seated r.state r.ranges r.entry in
     let now = sees c.acts.desk in
     let kept = c.acts.kept in
     let b = c.acts.proposer in
@@ -285,19 +184,9 @@ acts-preserved g c =
     let first = sees c.args.desk.now in
     let before = c.args.kept.now in
     let intent : Intent = intent_of c.args.want c.args.voters.now c.args.position in
-    let aim : Aim = record { position = c.args.position; ballot = record { round = before.round + 1; client = c.args.desk.now.client } } in
-    let h : IsBidder intent aim first before = record {
-      desk = c.requires.desk;
-      position = c.requires.position;
-      placed = refl;
-      ballot = refl;
-      last = c.requires.round;
-      voters = λ s v. omega (arith, c.requires.voters s v, c.requires.setting.services);
-      entry = c.requires.entry;
-      state = c.requires.state;
-      ranges = c.requires.ranges;
-      seated = c.requires.seated;
-    } in
+    let aim = next_aim first before c.args.position in
+    let r = c.requires in
+    let h = bidder first before c.args.setting.now c.args.want c.args.voters.now c.args.position r.desk r.setting r.position r.round r.voters r.seated r.state r.ranges r.entry in
     let now = sees c.acts.desk in
     let kept = c.acts.kept in
     let b = c.acts.proposer in
@@ -315,19 +204,9 @@ returns-in-Err-perform-clause-broken g c =
     let first = sees c.args.desk.now in
     let before = c.args.kept.now in
     let intent : Intent = intent_of c.args.want c.args.voters.now c.args.position in
-    let aim : Aim = record { position = c.args.position; ballot = record { round = before.round + 1; client = c.args.desk.now.client } } in
-    let h : IsBidder intent aim first before = record {
-      desk = c.requires.desk;
-      position = c.requires.position;
-      placed = refl;
-      ballot = refl;
-      last = c.requires.round;
-      voters = λ s v. omega (arith, c.requires.voters s v, c.requires.setting.services);
-      entry = c.requires.entry;
-      state = c.requires.state;
-      ranges = c.requires.ranges;
-      seated = c.requires.seated;
-    } in
+    let aim = next_aim first before c.args.position in
+    let r = c.requires in
+    let h = bidder first before c.args.setting.now c.args.want c.args.voters.now c.args.position r.desk r.setting r.position r.round r.voters r.seated r.state r.ranges r.entry in
     let now = sees c.acts.desk in
     let kept = c.acts.kept in
     let b = c.acts.proposer in
@@ -345,19 +224,9 @@ returns-in-Err-perform-clause-leaves g c =
     let first = sees c.args.desk.now in
     let before = c.args.kept.now in
     let intent : Intent = intent_of c.args.want c.args.voters.now c.args.position in
-    let aim : Aim = record { position = c.args.position; ballot = record { round = before.round + 1; client = c.args.desk.now.client } } in
-    let h : IsBidder intent aim first before = record {
-      desk = c.requires.desk;
-      position = c.requires.position;
-      placed = refl;
-      ballot = refl;
-      last = c.requires.round;
-      voters = λ s v. omega (arith, c.requires.voters s v, c.requires.setting.services);
-      entry = c.requires.entry;
-      state = c.requires.state;
-      ranges = c.requires.ranges;
-      seated = c.requires.seated;
-    } in
+    let aim = next_aim first before c.args.position in
+    let r = c.requires in
+    let h = bidder first before c.args.setting.now c.args.want c.args.voters.now c.args.position r.desk r.setting r.position r.round r.voters r.seated r.state r.ranges r.entry in
     let now = sees c.acts.desk in
     let kept = c.acts.kept in
     let b = c.acts.proposer in
