@@ -6,14 +6,13 @@ ghost use Rattle.ms_bid.specs.Bids.{MayFault, acts_left, ballot_of_round, fits, 
 ghost use Rattle.ms_local.specs.Desks.{IsDesk, OnTold', desk_view};
 ghost use Rattle.ms_local.specs.Keeping.{HasRanges};
 ghost use Rattle.ms_local.specs.Rules.{Bidding};
+ghost use Rattle.ms_local.specs.Truths.{IsStateAt};
 ghost use Rattle.ms_record.specs.declared.entry.Entry.{Entry};
 ghost use Rattle.ms_record.specs.Entries.{IsEntry};
 ghost use Rattle.ms_record.specs.Records.{IsPosition};
 ghost use Rattle.ms_propose.specs.Bidding.{BidHalted, BidMade, intent_of};
 ghost use Rattle.ms_propose.specs.Leaving.{Bids, IsSettingOf, Shows, slack_of};
-ghost use Rattle.ms_local.specs.Desks.{OnTold'};
 ghost use Rattle.ms_propose.specs.TrueBids.{IsSeated};
-ghost use Rattle.ms_local.specs.Truths.{IsStateAt};
 
 use crate::acts::{Aim, keep_round, perform};
 use ms_base::{Gate, NoMemory};
