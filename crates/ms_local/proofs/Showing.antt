@@ -78,26 +78,26 @@ module _ (who : ℕ) (mark : Deed) (Has Holds : Bidding → Type 0) (seen : Bidd
     (fresh : (s mid : Bidding) (own rest : List Intent) (d : Deed) → Step who s own d mid rest → Holds s → d ≡ mark → sight_at (seen mid) service ≡ Some sight → ⊥)
     (holds : (s mid : Bidding) (own rest : List Intent) (d : Deed) → Step who s own d mid rest → Holds s → Holds mid)
   where
-  pub behind : (s t : Bidding) (own : List Intent) (deeds : List Deed) → Run who s own deeds t → Holds s → Has t → sight_at (seen t) service ≡ Some sight
-      → (Has s × IsShownBy (seen s) deeds service sight) ⊎ ShowsBehind deeds mark service sight
-  behind s t own [] h inv has e = inl (subst Has h.1 has, inl (subst (λ (b : Bidding). sight_at (seen b) service ≡ Some sight) h.1 e))
-  behind s t own (d ∷ deeds) h inv has e =
-      elim (behind h.0 t h.1 deeds h.3 (holds s h.0 own h.1 d h.2 inv) has e) [
-        | inr b ↦ inr (d ∷ b.0, b.1, ap (λ (xs : List Deed). d ∷ xs) b.2, b.3, b.4, b.5)
-        | inl a ↦ elim (marks s h.0 own h.1 d h.2 a.0) [
-          | inr is ↦ elim a.1 [
-            | inl v ↦ absurd (fresh s h.0 own h.1 d h.2 inv is v)
-            | inr c ↦ inr ([], deeds, ap (λ (x : Deed). x ∷ deeds) is, c.0, c.1, c.2)
-          ]
-          | inl had ↦ elim a.1 [
-            | inl v ↦ elim (shows s h.0 own h.1 d h.2 v) [
-              | inl there ↦ inl (had, inl there)
-              | inr new ↦ inl (had, inr (new.0, new.1, (0, omega arith, new.2)))
+    pub behind : (s t : Bidding) (own : List Intent) (deeds : List Deed) → Run who s own deeds t → Holds s → Has t → sight_at (seen t) service ≡ Some sight
+        → (Has s × IsShownBy (seen s) deeds service sight) ⊎ ShowsBehind deeds mark service sight
+    behind s t own [] h inv has e = inl (subst Has h.1 has, inl (subst (λ (b : Bidding). sight_at (seen b) service ≡ Some sight) h.1 e))
+    behind s t own (d ∷ deeds) h inv has e =
+        elim (behind h.0 t h.1 deeds h.3 (holds s h.0 own h.1 d h.2 inv) has e) [
+          | inr b ↦ inr (d ∷ b.0, b.1, ap (λ (xs : List Deed). d ∷ xs) b.2, b.3, b.4, b.5)
+          | inl a ↦ elim (marks s h.0 own h.1 d h.2 a.0) [
+            | inr is ↦ elim a.1 [
+              | inl v ↦ absurd (fresh s h.0 own h.1 d h.2 inv is v)
+              | inr c ↦ inr ([], deeds, ap (λ (x : Deed). x ∷ deeds) is, c.0, c.1, c.2)
             ]
-            | inr c ↦ inl (had, inr (c.0, c.1, later d deeds (Looked c.0 sight true) c.2))
+            | inl had ↦ elim a.1 [
+              | inl v ↦ elim (shows s h.0 own h.1 d h.2 v) [
+                | inl there ↦ inl (had, inl there)
+                | inr new ↦ inl (had, inr (new.0, new.1, (0, omega arith, new.2)))
+              ]
+              | inr c ↦ inl (had, inr (c.0, c.1, later d deeds (Looked c.0 sight true) c.2))
+            ]
           ]
         ]
-      ]
 
 takes_some : (o : Option Sight) → takes o ≡ true → (sight : Sight) × (o ≡ Some sight) × (sight.taken ≡ true)
 takes_some None e = absurd cc
@@ -183,13 +183,13 @@ pub taken_shown : (n who round : ℕ) (own : List Intent) (deeds : List Deed) (t
 taken_shown n who round own deeds t voters offer service h told e =
     let s = takes_some (sight_at t.votes service) (second (is_voter voters service) (takes (sight_at t.votes service)) e) in
     elim (behind who (Declared offer) (λ b. b.declared ≡ Some offer) Unvoted (λ b. b.votes) service s.0
-      (λ x y o r d step has. step_declared who x y o r d offer step has)
-      (λ x y o r d step shown. step_shown who x y o r d service s.0 step shown)
-      (λ x y o r d step unvoted is shown.
-        let q = declares who x y o r offer (subst (λ (z : Deed). Step who x o z y r) is step) in
-        unvoted service s.0 q.0 (at_votes y x service s.0 q.1 shown))
-      (λ x y o r d step unvoted. step_unvoted who x y o r d step unvoted)
-      (begun_at n round) t own deeds h (λ k x none there. none_at n k x there) told s.1) [
+    (λ x y o r d step has. step_declared who x y o r d offer step has)
+    (λ x y o r d step shown. step_shown who x y o r d service s.0 step shown)
+    (λ x y o r d step unvoted is shown.
+    let q = declares who x y o r offer (subst (λ (z : Deed). Step who x o z y r) is step) in
+    unvoted service s.0 q.0 (at_votes y x service s.0 q.1 shown))
+    (λ x y o r d step unvoted. step_unvoted who x y o r d step unvoted)
+    (begun_at n round) t own deeds h (λ k x none there. none_at n k x there) told s.1) [
       | inl a ↦ absurd cc
       | inr b ↦ (b.0, b.1, b.2, (b.3, s.0, b.4, s.2, b.5))
     ]
@@ -245,13 +245,13 @@ pub promised_shown : (n who read : ℕ) (own : List Intent) (deeds : List Deed) 
 promised_shown n who read own deeds t voters round service h kept e =
     let s = promises_some (sight_at t.looks service) (second (is_voter voters service) (promises (sight_at t.looks service)) e) in
     elim (behind who (Kept round true) (λ b. b.kept ≡ Some round) (λ b. Unit {0}) (λ b. b.looks) service s.0
-      (λ x y o r d step has. step_kept who x y o r d round step has)
-      (λ x y o r d step shown. step_looked who x y o r d service s.0 step shown)
-      (λ x y o r d step holds is shown.
-        let q = subst (λ (z : Deed). Step who x o z y r) is step in
-        none_at (length x.failed) service s.0 (subst (λ (b : Bidding). sight_at b.looks service ≡ Some s.0) q.3 shown))
-      (λ x y o r d step holds. tt)
-      (begun_at n read) t own deeds h tt kept s.1) [
+    (λ x y o r d step has. step_kept who x y o r d round step has)
+    (λ x y o r d step shown. step_looked who x y o r d service s.0 step shown)
+    (λ x y o r d step holds is shown.
+    let q = subst (λ (z : Deed). Step who x o z y r) is step in
+    none_at (length x.failed) service s.0 (subst (λ (b : Bidding). sight_at b.looks service ≡ Some s.0) q.3 shown))
+    (λ x y o r d step holds. tt)
+    (begun_at n read) t own deeds h tt kept s.1) [
       | inl a ↦ absurd cc
       | inr b ↦ (b.0, b.1, b.2, (b.3, s.0, b.4, s.2, b.5))
     ]

@@ -5,6 +5,7 @@ pub mod Keeping
 pub mod Rules
 pub mod Desks
 pub mod Calls
+pub mod ObjectCalls
 pub mod Learning
 pub mod Running
 pub mod Truths

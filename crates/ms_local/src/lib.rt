@@ -10,6 +10,7 @@ pub mod keeping;
 pub mod kept;
 pub mod learner;
 pub mod memory;
+pub mod objects;
 pub mod outside;
 pub mod spelling;
 
@@ -22,6 +23,9 @@ pub use keeping::{KeptError, read_kept, write_kept};
 pub use kept::{Base, Kept, Key, Todo};
 pub use learner::{Learner, Learnt};
 pub use memory::{MemoryKeeper, MemoryWork};
+pub use objects::{
+    Found, Miss, get_noted, get_object, has_noted, has_object, put_noted, put_object,
+};
 pub use outside::{Keeper, Work, WorkError};
 pub use spelling::{kept_laws, parse_kept, push_kept};
 

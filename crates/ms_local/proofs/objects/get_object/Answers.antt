@@ -1,0 +1,49 @@
+use Rattle.std.proofs.Common.{◌≡◌, ℕ, ◌<◌, refl, sym, ap, ◌∙◌, subst, length, arith}
+use Rattle.std.specs.Vec.{with_item}
+use Rattle.ms_ken.specs.Known.{TableId}
+use Rattle.ms_link.specs.Links.{IsOnBoard}
+use Rattle.ms_local.specs.Desks.{desk_view}
+use Rattle.ms_local.proofs.FirstLane.{desk_of, effect_of, gets_of, on_its_board, within}
+use Rattle.ms_local.proofs.objects.get_object.Goals as goal
+
+pub index_mut-link-requires : goal.index_mut-link-requires
+index_mut-link-requires g c =
+    let sees = g.L.Link.sees in
+    let desk = desk_view g.W.Work.sees g.K.Keeper.sees sees c.args.desk.now in
+    let lanes = c.args.desk.now.lanes.items in
+    let lane = c.index_mut.result.now in
+    let there = within sees desk lanes lane c.args.service.0 c.requires.desk refl c.index_mut.ensures.value c.requires.service in
+    let ok = lane.links.ok.0 in
+    omega arith
+
+pub get-requires : goal.get-requires
+get-requires g c =
+    let sees = g.L.Link.sees in
+    let desk = desk_view g.W.Work.sees g.K.Keeper.sees sees c.args.desk.now in
+    let lanes = c.args.desk.now.lanes.items in
+    let lane = c.index_mut.result.now in
+    record { board = subst (λ (b : TableId). IsOnBoard (sees c.index_mut-link.result.now) b desk.pass) (sym c.deref.ensures) (on_its_board sees desk lanes lane c.args.service.0 c.requires.desk refl c.index_mut.ensures.value c.requires.service c.index_mut-link.result.now c.index_mut-link.ensures.value) }
+
+pub returns-clause-gets : goal.returns-clause-gets
+returns-clause-gets g c =
+    let sees = g.L.Link.sees in
+    let desk = desk_view g.W.Work.sees g.K.Keeper.sees sees c.args.desk.now in
+    let lanes = c.args.desk.now.lanes.items in
+    let lane = c.index_mut.result.now in
+    gets_of sees desk lanes lane c.args.service.0 c.requires.desk refl c.index_mut.ensures.value c.requires.service c.index_mut-link.result.now c.index_mut-link.ensures.value c.get.new.pass c.get.new.self (record { links = with_item lane.links c.args.service.0 c.get.new.self }) refl c.args.generation c.args.name.now c.get.result c.get.ensures.gets
+
+pub returns-clause-effect : goal.returns-clause-effect
+returns-clause-effect g c =
+    let sees = g.L.Link.sees in
+    let desk = desk_view g.W.Work.sees g.K.Keeper.sees sees c.args.desk.now in
+    let lanes = c.args.desk.now.lanes.items in
+    let lane = c.index_mut.result.now in
+    effect_of sees desk lanes lane c.args.service.0 c.requires.desk refl c.index_mut.ensures.value c.requires.service c.index_mut-link.result.now c.index_mut-link.ensures.value c.get.new.pass c.get.new.self (record { links = with_item lane.links c.args.service.0 c.get.new.self }) refl c.get.ensures.pass c.get.ensures.link
+
+pub returns-clause-desk : goal.returns-clause-desk
+returns-clause-desk g c =
+    let sees = g.L.Link.sees in
+    let desk = desk_view g.W.Work.sees g.K.Keeper.sees sees c.args.desk.now in
+    let lanes = c.args.desk.now.lanes.items in
+    let lane = c.index_mut.result.now in
+    desk_of sees desk lanes lane c.args.service.0 c.requires.desk refl c.index_mut.ensures.value c.requires.service c.index_mut-link.result.now c.index_mut-link.ensures.value c.get.new.pass c.get.new.self (record { links = with_item lane.links c.args.service.0 c.get.new.self }) refl c.get.ensures.pass c.get.ensures.link
