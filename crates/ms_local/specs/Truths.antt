@@ -1,5 +1,5 @@
 -- What the deeds of a command say of the services, of the keeper and of the client's own list.
-use Rattle.std.specs.Prelude.{◌≡◌, ℕ, ◌+◌, ◌≤◌, Bool, true, false, List, [], ◌∷◌, ◌++◌, Option, Some, None, Contains}
+use Rattle.std.specs.Prelude.{◌≡◌, ℕ, ◌+◌, ◌<◌, ◌≤◌, true, false, List, [], ◌∷◌, ◌++◌, Option, Some, None, Contains}
 use mathlib.Core.List.{IsPrefix}
 use Rattle.ms_base.specs.Counts.{Rose}
 use Rattle.ms_core.specs.Views.{View, log_in, owner_of_client, votes_told}
@@ -10,7 +10,9 @@ use Rattle.ms_record.specs.declared.item.Item.TheVariants.{Offer}
 use Rattle.ms_record.specs.declared.record.Record.{Record}
 use Rattle.ms_record.specs.declared.record.Record.TheVariants.{Prepare}
 use Rattle.ms_record.specs.declared.sight.Sight.{Sight}
-use Rattle.ms_record.specs.Logs.{texts_in}
+use Rattle.ms_base.specs.declared.names.Name.{Name}
+use Rattle.ms_record.specs.declared.log.LogEvent.TheVariants.{Drop}
+use Rattle.ms_record.specs.Logs.{HasPut, texts_in}
 use Rattle.ms_record.specs.Sights.{IsSight}
 use Rattle.ms_local.specs.declared.deed.Deed.{Deed}
 use Rattle.ms_local.specs.declared.deed.Deed.TheVariants as deeds
@@ -55,15 +57,18 @@ pub record OwnHistory (old new : DeskView) : Type 0 where
 abbrev pub no_sight : Sight
 no_sight = record { promised = false; best = None; taken = false; top = None }
 
--- a call on an object answered, or showed a floor, or failed
-abbrev pub MayFail : DeskView → DeskView → ℕ → Bool → Option ℕ → Type 0
-MayFail old new service true floor = Unit {0}
-MayFail old new service false (Some floor) = Unit {0}
-MayFail old new service false None = HasFault old new service
+-- the service dropped what lies below a floor above the generation, or without a floor its link failed
+abbrev pub IsMissed : DeskView → DeskView → ℕ → ℕ → Option ℕ → Type 0
+IsMissed old new service generation (Some floor) = (generation < floor) × OnTold old (Contains (log_in new.pass.lists service) (Drop floor))
+IsMissed old new service generation None = HasFault old new service
 
--- what was appended with ok stands in its list, where a setting is told; a call without ok failed: its count of faults rose, and it
--- brought nothing. What a keeping leaves is told by the last kept round, a declaration by the own list, a look with ok by `TrueLooks`.
--- Nothing is said yet of deeds on objects and on the folder, but that a failed call has its fault
+-- a text of the name was put on the service in the generation, where a setting is told
+abbrev pub Stores : DeskView → DeskView → ℕ → ℕ → Name → Type 0
+Stores old new service generation name = OnTold old (HasPut (log_in new.pass.lists service) generation name)
+
+-- What was appended with ok stands in its list, where a setting is told, and what was put or is present was put; a call without ok
+-- failed: its count of faults rose, and it brought nothing; or it shows a floor. What a keeping leaves is told by the last kept
+-- round, a declaration by the own list, a look with ok by `TrueLooks`, and of calls on the folder only that one without ok has its fault
 abbrev pub IsTrueDeed : DeskView → DeskView → Deed → Type 0
 IsTrueDeed old new (deeds.Begun line) = Unit {0}
 IsTrueDeed old new deeds.KeepFailed = Rose old.keep.faults new.keep.faults
@@ -78,10 +83,18 @@ IsTrueDeed old new (deeds.Looked service sight true) = Unit {0}
 IsTrueDeed old new (deeds.Looked service sight false) = (sight ≡ no_sight) × HasFault old new service.0
 IsTrueDeed old new (deeds.Listed service list from count true) = Unit {0}
 IsTrueDeed old new (deeds.Listed service list from count false) = (count ≡ 0) × HasFault old new service.0
-IsTrueDeed old new (deeds.Asked service generation name present ok floor) = MayFail old new service.0 ok floor
-IsTrueDeed old new (deeds.Put service generation name ok floor) = MayFail old new service.0 ok floor
-IsTrueDeed old new (deeds.Got service generation name found ok floor) = MayFail old new service.0 ok floor
-IsTrueDeed old new (deeds.Dropped service generation ok) = MayFail old new service.0 ok None
+IsTrueDeed old new (deeds.Asked service generation name true true None) = Stores old new service.0 generation name
+IsTrueDeed old new (deeds.Asked service generation name false true None) = Unit {0}
+IsTrueDeed old new (deeds.Asked service generation name false false floor) = IsMissed old new service.0 generation floor
+IsTrueDeed old new (deeds.Asked service generation name present ok floor) = ⊥
+IsTrueDeed old new (deeds.Put service generation name true None) = Stores old new service.0 generation name
+IsTrueDeed old new (deeds.Put service generation name false floor) = IsMissed old new service.0 generation floor
+IsTrueDeed old new (deeds.Put service generation name ok floor) = ⊥
+IsTrueDeed old new (deeds.Got service generation name found true None) = Unit {0}
+IsTrueDeed old new (deeds.Got service generation name None false floor) = IsMissed old new service.0 generation floor
+IsTrueDeed old new (deeds.Got service generation name found ok floor) = ⊥
+IsTrueDeed old new (deeds.Dropped service generation true) = OnTold old (Contains (log_in new.pass.lists service.0) (Drop generation))
+IsTrueDeed old new (deeds.Dropped service generation false) = HasFault old new service.0
 IsTrueDeed old new (deeds.Scanned true) = Unit {0}
 IsTrueDeed old new (deeds.Scanned false) = Rose old.work.faults new.work.faults
 IsTrueDeed old new (deeds.Wrote path true) = Unit {0}

@@ -11,7 +11,9 @@ use Rattle.ms_core.specs.Views.{View, configuration, log_in, owner_of_client, vo
 use Rattle.ms_ken.specs.Lists.{list_at, Begins}
 use Rattle.ms_ken.specs.Prefixes.{prefix_trans}
 use Rattle.ms_ken.specs.Rows.{begins_self, begins_trans}
-use Rattle.ms_link.specs.Composing.{rose_before, rose_on, stays_on as link_on, stays_self as link_self}
+use Rattle.ms_base.specs.declared.names.Name.{Name}
+use Rattle.ms_record.specs.declared.log.LogEvent.TheVariants.{Drop, Put}
+use Rattle.ms_link.specs.Composing.{event_stays, rose_before, rose_on, stays_on as link_on, stays_self as link_self}
 use Rattle.ms_link.specs.Links.{LinkView, Stays}
 use Rattle.ms_record.specs.declared.ballot.Ballot.{Ballot}
 use Rattle.ms_record.specs.declared.item.Item.{Item}
@@ -28,13 +30,13 @@ use Rattle.ms_local.specs.declared.deed.Deed.TheVariants.{KeepFailed, Kept as Ke
 use Rattle.ms_local.specs.declared.deed.Message.TheVariants.{Vote}
 use Rattle.ms_local.specs.declared.kept.Kept.{Kept}
 use Rattle.ms_local.specs.declared.kept.Key.TheVariants.{State}
-use Rattle.ms_local.specs.Desks.{DeskView, HasFault, HasKeptRound, IsDesk, KnowsTold, LanesStay, LinksStay, first_link, faults_at, round_of}
+use Rattle.ms_local.specs.Desks.{DeskView, HasFault, HasKeptRound, IsDesk, KnowsTold, LanesStay, LinksStay, OnTold, first_link, faults_at, round_of}
 use Rattle.ms_local.specs.Keeping.{HasRanges, state_of}
 use Rattle.ms_local.specs.Outside.{KeeperView, WhereTold}
 use Rattle.ms_propose.specs.Acts.{with_round}
 use Rattle.ms_propose.specs.Going.{DeskBids, KeepsObjects}
 use Rattle.ms_propose.specs.Leaving.{Bids, IsBidDeed}
-use Rattle.ms_local.specs.Truths.{IsStateAt, IsTrueDeed, IsTrueSight, MayFail, OwnHistory, TrueDeeds, TrueLooks, ballot_at, last_kept, offers_of}
+use Rattle.ms_local.specs.Truths.{IsStateAt, IsTrueDeed, IsMissed, IsTrueSight, OwnHistory, Stores, TrueDeeds, TrueLooks, ballot_at, last_kept, offers_of}
 use Rattle.ms_local.specs.Calls.{message_text}
 
 -- ---- links
@@ -182,10 +184,17 @@ work_wider a b c d h k t =
     let after : d.work.faults ≡ c.work.faults = ap (λ (x : DeskView). x.work.faults) k.same in
     subst (λ (n : ℕ). Rose n d.work.faults) before (subst (λ (n : ℕ). Rose b.work.faults n) (sym after) t)
 
-call_wider : (a b c d : DeskView) → DeskBids a b → DeskBids c d → (s : ℕ) (ok : Bool) (floor : Option ℕ) → MayFail b c s ok floor → MayFail a d s ok floor
-call_wider a b c d h k s true floor t = tt
-call_wider a b c d h k s false (Some floor) t = tt
-call_wider a b c d h k s false None t = fault_wider a b c d h k s t
+events_wider : (a b c d : DeskView) → DeskBids a b → DeskBids c d → (s : ℕ) (event : LogEvent) → OnTold b (Contains (log_in c.pass.lists s) event) → OnTold a (Contains (log_in d.pass.lists s) event)
+events_wider a b c d h k s event t = λ setting told. event_stays (log_in c.pass.lists s) (log_in d.pass.lists s) event (logs_grow c.pass.lists d.pass.lists k.more s) (t setting (h.told setting told))
+
+stores_wider : (a b c d : DeskView) → DeskBids a b → DeskBids c d → (s generation : ℕ) (name : Name) → Stores b c s generation name → Stores a d s generation name
+stores_wider a b c d h k s generation name t = λ setting told.
+    let p = t setting (h.told setting told) in
+    (p.0, event_stays (log_in c.pass.lists s) (log_in d.pass.lists s) (Put generation name p.0) (logs_grow c.pass.lists d.pass.lists k.more s) p.1)
+
+missed_wider : (a b c d : DeskView) → DeskBids a b → DeskBids c d → (s generation : ℕ) (floor : Option ℕ) → IsMissed b c s generation floor → IsMissed a d s generation floor
+missed_wider a b c d h k s generation (Some floor) t = (t.0, events_wider a b c d h k s (Drop floor) t.1)
+missed_wider a b c d h k s generation None t = fault_wider a b c d h k s t
 
 -- a deed that is true between two moments is true between an earlier and a later one
 pub deed_wider : (a b c d : DeskView) → DeskBids a b → DeskBids c d → (deed : Deed) → IsTrueDeed b c deed → IsTrueDeed a d deed
@@ -197,10 +206,19 @@ deed_wider a b c d h k (Listed service list from count false) t = (t.0, fault_wi
 deed_wider a b c d h k (KeptDeed round false) t = keeper_wider a b c d h k t
 deed_wider a b c d h k (StateKept false) t = keeper_wider a b c d h k t
 deed_wider a b c d h k KeepFailed t = keeper_wider a b c d h k t
-deed_wider a b c d h k (deeds.Asked service generation name present ok floor) t = call_wider a b c d h k service.0 ok floor t
-deed_wider a b c d h k (deeds.Put service generation name ok floor) t = call_wider a b c d h k service.0 ok floor t
-deed_wider a b c d h k (deeds.Got service generation name found ok floor) t = call_wider a b c d h k service.0 ok floor t
-deed_wider a b c d h k (deeds.Dropped service generation ok) t = call_wider a b c d h k service.0 ok None t
+deed_wider a b c d h k (deeds.Asked service generation name true true None) t = stores_wider a b c d h k service.0 generation name t
+deed_wider a b c d h k (deeds.Asked service generation name false false floor) t = missed_wider a b c d h k service.0 generation floor t
+deed_wider a b c d h k (deeds.Asked service generation name true true (Some floor)) t = absurd t
+deed_wider a b c d h k (deeds.Asked service generation name true false floor) t = absurd t
+deed_wider a b c d h k (deeds.Asked service generation name false true (Some floor)) t = absurd t
+deed_wider a b c d h k (deeds.Put service generation name true None) t = stores_wider a b c d h k service.0 generation name t
+deed_wider a b c d h k (deeds.Put service generation name true (Some floor)) t = absurd t
+deed_wider a b c d h k (deeds.Put service generation name false floor) t = missed_wider a b c d h k service.0 generation floor t
+deed_wider a b c d h k (deeds.Got service generation name None false floor) t = missed_wider a b c d h k service.0 generation floor t
+deed_wider a b c d h k (deeds.Got service generation name (Some found) false floor) t = absurd t
+deed_wider a b c d h k (deeds.Got service generation name found true (Some floor)) t = absurd t
+deed_wider a b c d h k (deeds.Dropped service generation true) t = events_wider a b c d h k service.0 (Drop generation) t
+deed_wider a b c d h k (deeds.Dropped service generation false) t = fault_wider a b c d h k service.0 t
 deed_wider a b c d h k (deeds.Scanned false) t = work_wider a b c d h k t
 deed_wider a b c d h k (deeds.Wrote path false) t = work_wider a b c d h k t
 deed_wider a b c d h k (deeds.Removed path false) t = work_wider a b c d h k t
