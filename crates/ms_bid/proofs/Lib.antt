@@ -3,3 +3,4 @@ pub mod Counting
 pub mod Noting
 pub mod Deciding
 pub mod Running
+pub mod Flagging

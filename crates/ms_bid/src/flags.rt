@@ -1,9 +1,10 @@
 //! Sets of services that grow.
 
-ghost use Rattle.std.specs.Prelude.{◌≡◌, ℕ, ◌<◌, length, replicate, slice_set, true, false};
+ghost use Rattle.std.specs.Prelude.{◌≡◌, ◌↔◌, ℕ, ◌<◌, Contains, length, replicate, slice_set, true, false};
 ghost use Rattle.ms_bid.specs.Ends.{flag_at};
 
 use ms_base::ServiceId;
+use ms_record::ServiceSet;
 use std::marker::Model;
 
 /// The services of a workspace are numbered below this.
@@ -52,5 +53,20 @@ impl Flags {
         ensures { self.new ≡ slice_set self.old service.0 true }
     {
         self.flags[service.0 as usize] = true;
+    }
+
+    /// The services of which it is true.
+    pub fn services(&self) -> ServiceSet
+        ensures { (s : ℕ) → Contains result s ↔ (flag_at self.now s ≡ true) }
+    {
+        let _flags = &self.flags;
+        let mut services = ServiceSet::none();
+        for number in 0..MOST_SERVICES as u32 {
+            let service = ServiceId(number);
+            if self.has(service) {
+                services.add(service);
+            }
+        }
+        services
     }
 }

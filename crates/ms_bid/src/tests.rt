@@ -3,7 +3,7 @@
 ghost use Rattle.std.specs.Prelude.{◌≡◌, ℕ, ◌<◌, ◌≤◌, Contains, length};
 ghost use Rattle.ms_record.specs.Settings.{IsSetting};
 
-use crate::{Act, Answer, Outcome, Proposer};
+use crate::{Act, Answer, Flags, Outcome, Proposer};
 use ms_base::{ClientId, Name, ServiceId};
 use ms_record::{Ballot, Entry, Plan, ServiceSet, Setting, Sight, Vote};
 use std::test::*;
@@ -259,4 +259,16 @@ fn wrong_answer_to_the_proposer(rt: HostRuntime) {
     for row in WRONG_ANSWERS {
         assert!(rt; is_wrong(row));
     }
+}
+
+#[test]
+fn services_with_a_flag(rt: HostRuntime) {
+    let mut flags = Flags::none();
+    assert!(rt; flags.services().len() == 0);
+    flags.add(ServiceId(15));
+    flags.add(ServiceId(0));
+    flags.add(ServiceId(7));
+    let services = flags.services();
+    assert!(rt; services.len() == 3);
+    assert!(rt; services.has(ServiceId(0)) && services.has(ServiceId(7)) && services.has(ServiceId(15)));
 }

@@ -3,3 +3,4 @@ pub mod Acts
 pub mod Bidding
 pub mod TrueBids
 pub mod Leaving
+pub mod Proposing

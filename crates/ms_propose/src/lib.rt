@@ -3,3 +3,6 @@
 
 mod acts;
 mod bids;
+mod proposal;
+
+pub use proposal::{Decided, propose};
