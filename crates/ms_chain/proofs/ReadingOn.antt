@@ -1,6 +1,7 @@
 -- A chain that reads a list on.
 use Rattle.std.proofs.Common.{◌≡◌, ℕ, zero, suc, ◌+◌, ◌<◌, ◌≤◌, Bool, true, false, List, [], ◌∷◌, ◌++◌, Option, Some, None, Result, Ok, Err, ◌⊎◌, inl, inr, ◌↔◌, refl, sym, ap, ◌∙◌, subst, slice_get, slice_set, slice_index_or, length, drop, take, arith, length-append, append_assoc, Contains}
 use mathlib.Core.List.{IsPrefix}
+use Rattle.std.specs.Result.{IsErr}
 use Rattle.std.proofs.lemmas.Bool.{cases_eq}
 use Rattle.std.proofs.lemmas.List.{get_or-set_other, get_or-set_same, length-set, set-get_or, set-set}
 use Rattle.ms_base.specs.declared.bytes.NoMemory.{NoMemory}
@@ -35,16 +36,29 @@ with_more chain s front text lt = λ i. record chain { lists = same i }
         ∙ ap (λ (t : List (List ℕ)). slice_set chain.lists s (t ++ text ∷ [])) (texts_here chain s front lt)
         ∙ ap (slice_set chain.lists s) (append_assoc (texts_read chain s) front (text ∷ []))
 
+pub many_with : (chain : ChainView) (s : ℕ) (texts : List (List ℕ)) → length (with_texts chain s texts).lists ≡ length chain.lists
+many_with chain s texts = length-set chain.lists s (texts_read chain s ++ texts)
+
 pub goes_by : (chain : ChainView) (s : ℕ) (texts : List (List ℕ)) → s < length chain.lists → ListsGoOn chain (with_texts chain s texts)
 goes_by chain s texts lt = record {
   same = refl;
-  many = length-set chain.lists s (texts_read chain s ++ texts);
+  many = many_with chain s texts;
   goes = λ x.
       elim (cases_eq x s) [
         | inl e ↦ subst (λ (y : ℕ). IsPrefix (texts_read chain y) (texts_read (with_texts chain s texts) y)) (sym e) (texts, sym (texts_here chain s texts lt))
         | inr ne ↦ subst (λ (t : List (List ℕ)). IsPrefix (texts_read chain x) t) (sym (texts_there chain s x texts ne)) (prefix_self (texts_read chain x))
       ];
 }
+
+-- ---- texts that come one by one
+
+pub all_came : (came left texts : List (List ℕ)) → texts ≡ came ++ left → length left ≡ 0 → came ≡ texts
+all_came came [] texts e none = sym (e ∙ append_nil came)
+all_came came (text ∷ left) texts e none = absurd (omega arith)
+
+pub takes_front : (old new : ChainView) (s : ℕ) (texts front : List (List ℕ)) (r : Result Unit NoMemory) → IsErr r → IsPrefix front texts → new ≡ with_texts old s front → TakesTexts old new s texts r
+takes_front old new s texts front (Ok u) is p e = absurd (cc is)
+takes_front old new s texts front (Err error) is p e = (front, p, e)
 
 -- ---- what is told of a list
 

@@ -109,14 +109,15 @@ impl Chain {
     /// How many texts were read of the service's vote list.
     pub(crate) fn count(&self, service: ServiceId) -> u64
         requires { service.0 < self.now.setting.services }
-        ensures { result ≡ length (texts_read self.now service.0) }
+        ensures count { result ≡ length (texts_read self.now service.0) }
+        ensures many { length self.now.lists ≡ self.now.setting.services }
     {
         self.heard.count(service)
     }
 
     /// The service's vote list goes on by a text. Refused, it changes nothing.
     pub(crate) fn take_text(&mut self, service: ServiceId, text: Bytes) -> Result<(), NoMemory>
-        requires { service.0 < self.old.setting.services }
+        requires { service.0 < length self.old.lists }
         ensures ok { OnOk result (self.new ≡ record self.old { lists = heard_more self.old.lists service.0 text }) }
         ensures err { OnErr result (self.new ≡ self.old) }
     {

@@ -1,6 +1,6 @@
 //! Learning at a desk: a chain reads the vote lists on, and gains what they show.
 
-ghost use Rattle.std.specs.Prelude.{◌≡◌, ◌<◌, ℕ, IfOk, IfErr};
+ghost use Rattle.std.specs.Prelude.{◌≡◌, ◌<◌, ℕ, IfOk, IfErr, length};
 ghost use Rattle.ms_chain.specs.Readings.{DeskGoes, ListsGoOn, ReadsOne, ReadsUpTo, TakesTexts};
 ghost use Rattle.ms_local.specs.Desks.{IsDesk, desk_view};
 ghost use Rattle.ms_local.specs.Learning.{IsOfDesk, ReadsSome, texts_read};
@@ -22,7 +22,7 @@ const VOTES: ListId = ListId(0);
 impl Chain {
     /// The service's vote list goes on by these texts. Without memory a front of them is taken.
     fn take_texts(&mut self, service: ServiceId, texts: Texts) -> Result<(), NoMemory>
-        requires { service.0 < self.old.setting.services }
+        requires { service.0 < length self.old.lists }
         ensures { TakesTexts self.old self.new service.0 texts result }
     {
         for text in texts.into_vec() {
