@@ -5,4 +5,5 @@ mod Keeping
 mod Splitting
 mod Standings
 mod ReadingOn
+mod Telling
 mod Rounds

@@ -12,7 +12,7 @@ use ms_core::item_law::{configuration_stays, views_grow};
 use ms_core::view_law::{linked_lists, told_views};
 use ms_link::law::{asks_stay, calls_compose, logs_grow};
 use ms_link::{Link, Texts};
-use ms_local::{Desk, Keeper, Learner, Learnt, Work, desks_stay, list_noted};
+use ms_local::{Desk, Keeper, Learner, Learnt, Work, desks_stay, list_noted, tellings_stay};
 use ms_record::{Entry, ListId, Refusal, ServiceSet};
 use std::alloc::Global;
 
@@ -48,6 +48,9 @@ impl Chain {
         ensures desk { IsDesk (desk_view W.sees K.sees L.sees desk.new) }
         ensures chain { IsOfDesk self.new (desk_view W.sees K.sees L.sees desk.new) }
     {
+        desks_stay();
+        tellings_stay();
+        views_grow();
         let from = self.count(service);
         match list_noted(alloc, desk, service, VOTES, from)? {
             Some(texts) => {
