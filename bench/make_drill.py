@@ -47,6 +47,37 @@ def events():
         learned[client] = position
 
 
+def edges():
+    """Schedules over one service and one client, each with its title: long in one thing alone."""
+    empty = b"D\0\0\0\0"
+    version = b"V" + struct.pack(">IIB", 0, 1, 0) + hashlib.sha256(empty).digest()
+    name = hashlib.sha256(version).hexdigest()
+    begun = ["start 0", "place 0 1 %s" % empty.hex(), "place 0 1 %s" % version.hex()]
+    bid = "bid 0 1 1 %s" % name
+
+    def chain(members):
+        log = 2
+        for position in range(1, members + 1):
+            yield "bid 0 %d %d %s" % (position, position, name)
+            for ask in range(2):
+                log += 1
+                yield from ["deliver %d" % (2 * position - 2 + ask), "read 0 0 %d" % log]
+                if ask == 0:
+                    yield "offer 0"
+            yield "learn 0"
+
+    def lasting(log):
+        return ["deliver 0", "read 0 0 %d" % (log + 1), "offer 0", "deliver 1", "read 0 0 %d" % (log + 2), "learn 0"]
+
+    for title, lines in {
+        "one request delivered 9,996 times": [*begun, bid, *["deliver 0"] * 9996],
+        "9,990 puts on one service": [*begun, *["place 0 1 %s" % (b"B%d" % at).hex() for at in range(9988)], bid, *lasting(9990)],
+        "a chain of 1,428 members": [*begun, *chain(1428)],
+        "an object of 8 MB beside a bid": [*begun, "place 0 1 %s" % (b"B" + bytes(8380000)).hex(), bid, *lasting(3)],
+    }.items():
+        yield title, "".join(line + "\n" for line in ["metasync-drill 1 1 1 1", *lines])
+
+
 def schedule(count):
     head = "metasync-drill 1 %d %d 1" % (SERVICES, CLIENTS)
     return "".join(line + "\n" for line in [head, *itertools.islice(events(), count)])

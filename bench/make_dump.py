@@ -9,6 +9,7 @@ KIND is one of
   short      one position, with ever greater ballots that no majority took
   spread     Prepares alone, each at a position of its own
   foreign    entries that are no records, in short lines
+  repeated   one position and one ballot: its Prepare, and then its Accept over and over
 """
 import hashlib
 import struct
@@ -76,6 +77,14 @@ def foreign(services):
         at += 1
 
 
+def repeated(services):
+    for service in range(services):
+        yield service, prepare(1, 1, 0)
+    while True:
+        for service in range(services):
+            yield service, accept(1, 1, 0, push(GENESIS, 1))
+
+
 def turns(services):
     """A chain in which every second member is a plan, each of other services, of which a bare majority votes behind it."""
     before, position, voters = GENESIS, 1, list(range(services))
@@ -91,7 +100,7 @@ def turns(services):
         before, position = hashlib.sha256(entry).digest(), position + 1
 
 
-KINDS = {"chain": chain, "turns": turns, "contested": contested, "short": short, "spread": spread, "foreign": foreign}
+KINDS = {"chain": chain, "turns": turns, "contested": contested, "short": short, "spread": spread, "foreign": foreign, "repeated": repeated}
 
 
 def dump(kind, services, size):

@@ -197,9 +197,12 @@ def large():
     """Runs near the limits, of each command."""
     for kind, services in (("chain", 3), ("turns", 5), ("contested", 3), ("short", 16), ("spread", 3), ("foreign", 16), ("chain", 16), ("turns", 16)):
         yield call("audit", "%s over %d services" % (kind, services), make_dump.dump(kind, services, MOST // 4).encode())
-    yield call("audit", "a chain of 16 MiB", make_dump.dump("chain", 3, MOST).encode())
+    for kind in ("chain", "repeated"):
+        yield call("audit", "%s, 16 MiB" % kind, make_dump.dump(kind, 3, MOST).encode())
     for count in (1000, 10000, 10001, 10002):
         yield call("drill", "%d events" % count, make_drill.schedule(count).encode())
+    for title, text in make_drill.edges():
+        yield call("drill", title, text.encode())
     yield call("drill", "10,001 events, all wrong", HEADS["drill"] + b"\n" * 10002)
     yield call("drill", "10,001 events behind a wrong first line", b"x" + b"\n" * 10002)
     for count in (2000, 20000):
