@@ -270,5 +270,7 @@ fn services_with_a_flag(rt: HostRuntime) {
     flags.add(ServiceId(7));
     let services = flags.services();
     assert!(rt; services.len() == 3);
-    assert!(rt; services.has(ServiceId(0)) && services.has(ServiceId(7)) && services.has(ServiceId(15)));
+    assert!(rt;
+        services.has(ServiceId(0)) && services.has(ServiceId(7)) && services.has(ServiceId(15))
+    );
 }

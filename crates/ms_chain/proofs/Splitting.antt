@@ -54,19 +54,22 @@ pub split_back : (line : LineView) (before after : List (List (List ℕ))) (s : 
     → IsVotedAt (lists_of before s) (record_at text) voted → (voted ≡ Some k → ⊥) → SplitsAt (chain_of line after) k → SplitsAt (chain_of line before) k
 split_back line before after s text voted k g v other w =
     let h = w.2 in
-    let voters = voters_behind (origin_of line.setting) (take h.members line.members) in
-    (w.0, w.1, record {
-      members = h.members;
-      within = h.within;
-      at = h.at;
-      one = h.one;
-      other = h.other;
-      one_chosen = chosen_back (lists_of before) (lists_of after) s text voted voters k h.one g v other h.one_chosen;
-      other_chosen = chosen_back (lists_of before) (lists_of after) s text voted voters k h.other g v other h.other_chosen;
-      differ = h.differ;
-      one_named = h.one_named;
-      other_named = h.other_named;
-    })
+    let voters = voters_behind (origin_of line.setting) (take h.members line.members) in (
+      w.0,
+      w.1,
+      record {
+        members = h.members;
+        within = h.within;
+        at = h.at;
+        one = h.one;
+        other = h.other;
+        one_chosen = chosen_back (lists_of before) (lists_of after) s text voted voters k h.one g v other h.one_chosen;
+        other_chosen = chosen_back (lists_of before) (lists_of after) s text voted voters k h.other g v other h.other_chosen;
+        differ = h.differ;
+        one_named = h.one_named;
+        other_named = h.other_named;
+      },
+    )
 
 pub known_stays : (line : LineView) (before after : List (List (List ℕ))) (s : ℕ) (text : List ℕ) (split : Split) → GoesOnAt (lists_of before) (lists_of after) s text
     → SplitIs (chain_of line before) (Some split) → SplitIs (chain_of line after) (Some split)
@@ -126,19 +129,22 @@ split_shorter line e lists k le w =
     let at = h.at in
     let within : h.members ≤ length line.members = omega arith in
     let same : take h.members (line.members ++ e ∷ []) ≡ take h.members line.members = take_left h.members line.members (e ∷ []) within in
-    let P : List Entry → Entry → Type 0 = λ xs f. ChosenBy (lists_of lists) (voters_behind (origin_of line.setting) xs) k f in
-    (w.0, w.1, record {
-      members = h.members;
-      within = within;
-      at = h.at;
-      one = h.one;
-      other = h.other;
-      one_chosen = subst (λ (xs : List Entry). P xs h.one) same h.one_chosen;
-      other_chosen = subst (λ (xs : List Entry). P xs h.other) same h.other_chosen;
-      differ = h.differ;
-      one_named = h.one_named;
-      other_named = h.other_named;
-    })
+    let P : List Entry → Entry → Type 0 = λ xs f. ChosenBy (lists_of lists) (voters_behind (origin_of line.setting) xs) k f in (
+      w.0,
+      w.1,
+      record {
+        members = h.members;
+        within = within;
+        at = h.at;
+        one = h.one;
+        other = h.other;
+        one_chosen = subst (λ (xs : List Entry). P xs h.one) same h.one_chosen;
+        other_chosen = subst (λ (xs : List Entry). P xs h.other) same h.other_chosen;
+        differ = h.differ;
+        one_named = h.one_named;
+        other_named = h.other_named;
+      },
+    )
 
 -- what was known before stays, and what was judged at the new end
 pub gained_known : (line : LineView) (e : Entry) (lists : List (List (List ℕ))) (split : Split) → SplitIs (chain_of line lists) (Some split) → SplitIs (chain_of (longer line e) lists) (Some split)

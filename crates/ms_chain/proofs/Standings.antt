@@ -136,11 +136,10 @@ next_unlinked line lists e not h =
 
 pub next_two : (line : LineView) (lists : List (List (List ℕ))) (a b : Entry) (split : Split) → StandsBehind line lists (TwoChosen a b) → split.position ≡ length line.members + 1
     → split.first.0 ≡ name_of a → split.second.0 ≡ name_of b → IsNextOf (chain_of line lists) (Two split)
-next_two line lists a b split h at one other =
-    (
-      λ e next. h.1.differs (next.only b h.1.chosen ∙ sym (next.only a h.0.chosen)),
-      (split_some line lists split.position (length lists) (Voters line) a b split.first.0 split.second.0 are (omega arith) (omega arith) here one other, at),
-    )
+next_two line lists a b split h at one other = (
+  λ e next. h.1.differs (next.only b h.1.chosen ∙ sym (next.only a h.0.chosen)),
+  (split_some line lists split.position (length lists) (Voters line) a b split.first.0 split.second.0 are (omega arith) (omega arith) here one other, at),
+)
   where
     are : Voters line ≡ voters_behind (origin_of line.setting) (take (split.position - 1) line.members)
     are = ap (voters_behind (origin_of line.setting)) (sym (ap (λ (n : ℕ). take n line.members) (let e : split.position - 1 ≡ length line.members = omega arith in e) ∙ take_all line.members))

@@ -106,15 +106,14 @@ read_on chain old new s texts front lt more h came p = record {
 
 pub brings_all : (chain : ChainView) (old new : DeskView) (s : ℕ) (texts : List (List ℕ)) → s < length chain.lists → KnowsMore old new → IsOfDesk chain old → Came chain old new s texts
     → Brings chain (with_texts chain s texts) old new s (length texts) true
-brings_all chain old new s texts lt more h came =
-    (
-      ap (λ (t : List (List ℕ)). length t) (texts_here chain s texts lt) ∙ length-append (texts_read chain s) texts,
-      λ setting told.
-          let k = h.known setting told in
-          let left = prefix_trans (texts_read chain s) (told_texts old s) (told_texts new s) (k.read s) (more.texts s) in
-          let whole = reads_all (texts_read chain s) texts (told_texts new s) left (came setting told) in
-          subst (λ (t : List (List ℕ)). IsPrefix (told_texts old s) t) (sym (texts_here chain s texts lt ∙ whole)) (more.texts s),
-    )
+brings_all chain old new s texts lt more h came = (
+  ap (λ (t : List (List ℕ)). length t) (texts_here chain s texts lt) ∙ length-append (texts_read chain s) texts,
+  λ setting told.
+      let k = h.known setting told in
+      let left = prefix_trans (texts_read chain s) (told_texts old s) (told_texts new s) (k.read s) (more.texts s) in
+      let whole = reads_all (texts_read chain s) texts (told_texts new s) left (came setting told) in
+      subst (λ (t : List (List ℕ)). IsPrefix (told_texts old s) t) (sym (texts_here chain s texts lt ∙ whole)) (more.texts s),
+)
 
 pub reads_one : (chain : ChainView) (old new : DeskView) (service : ServiceId) (list : ListId) (from : ℕ) (texts : List (List ℕ)) → list.0 ≡ 0 → from ≡ length (texts_read chain service.0) → service.0 < length chain.lists
     → KnowsMore old new → IsOfDesk chain old → Came chain old new service.0 texts → new.deeds ≡ old.deeds ++ Listed service list from (length texts) true ∷ []

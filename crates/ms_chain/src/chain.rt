@@ -161,7 +161,11 @@ impl Chain {
 
     /// What was learnt, where these services failed: what half of the voters of a position failed comes first, then the split that
     /// is known or stands behind the end.
-    pub(crate) fn answer(&self, failed: &ServiceSet, behind: Option<Split>) -> Result<Learnt, Refusal>
+    pub(crate) fn answer(
+        &self,
+        failed: &ServiceSet,
+        behind: Option<Split>,
+    ) -> Result<Learnt, Refusal>
         requires { BehindIs self.now behind }
         ensures { AnswersOf self.now failed.now result }
     {

@@ -12,8 +12,7 @@ returns-in-None c =
     let view = c.self.view_is in
     let none = neither inside.split c.args.behind (sym c.or.ensures ∙ c.in-None.is) in
     let known : SplitIs chain None = subst (SplitIs chain) none.0 (subst (λ (v : ChainView). SplitIs v inside.split) view c.self.invariant.split) in
-    let behind : BehindIs chain None = subst (BehindIs chain) none.1 c.requires in
-    (
+    let behind : BehindIs chain None = subst (BehindIs chain) none.1 c.requires in (
       λ lack.
           let back = subst (λ (v : ChainView). LacksMajority v c.args.failed.now) (sym view) lack in
           let yes = c.lacks.ensures.no back.members back.within back.half in

@@ -13,8 +13,7 @@ members-preserved c =
     let mid = c.members.self in
     let e = c.in-Member.entry in
     let is = c.in_ok-gain-in-Member.ensures.ok in
-    let next = subst (IsNextOf mid) c.in-Member.is c.next.ensures in
-    (
+    let next = subst (IsNextOf mid) c.in-Member.is c.next.ensures in (
       subst (λ (v : ChainView). ChainGrows old v) (sym is) (grows_on old mid e c.members.invariant.0 next.1),
       ap (λ (v : ChainView). v.lists) is ∙ c.members.invariant.1,
     )

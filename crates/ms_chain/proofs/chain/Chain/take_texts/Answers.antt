@@ -8,7 +8,7 @@ use Rattle.ms_chain.proofs.chain.Chain.take_texts.Goals as goal
 pub loop-text-init : goal.loop-text-init
 loop-text-init c =
     let gives = c.into_iter-text-iterator.ensures.into_iter_gives in
-    record { is = sym (with_none c.args.self.now c.args.service.0); front = sym c.into_vec-text-items.ensures ∙ sym gives.0; left = (let many = gives.1 in let same : length (into_iter_items c.into_iter-text-iterator.result) ≡ length c.into_vec-text-items.result.items = ap (λ (ts : List (List ℕ)). length ts) gives.0 in let ok = c.into_vec-text-items.result.ok.0 in omega arith); }
+    record { is = sym (with_none c.args.self.now c.args.service.0); front = sym c.into_vec-text-items.ensures ∙ sym gives.0; left = (let many = gives.1 in let same : length (into_iter_items c.into_iter-text-iterator.result) ≡ length c.into_vec-text-items.result.items = ap (λ (ts : List (List ℕ)). length ts) gives.0 in let ok = c.into_vec-text-items.result.ok.0 in omega arith) }
 
 pub take_text-requires : goal.take_text-requires
 take_text-requires c =
