@@ -9,3 +9,4 @@ pub mod Going
 pub mod Stepping
 pub mod Acting
 pub mod OneBid
+pub mod Proposals
