@@ -71,6 +71,7 @@ def edges():
 
     for title, lines in {
         "one request delivered 9,996 times": [*begun, bid, *["deliver 0"] * 9996],
+        "one Accept delivered 9,990 times": [*begun, bid, "deliver 0", "read 0 0 3", "offer 0", *["deliver 1"] * 9990, "read 0 0 5000", "learn 0"],
         "9,990 puts on one service": [*begun, *["place 0 1 %s" % (b"B%d" % at).hex() for at in range(9988)], bid, *lasting(9990)],
         "a chain of 1,428 members": [*begun, *chain(1428)],
         "an object of 8 MB beside a bid": [*begun, "place 0 1 %s" % (b"B" + bytes(8380000)).hex(), bid, *lasting(3)],

@@ -7,3 +7,6 @@ mod Standings
 mod ReadingOn
 mod Telling
 mod Rounds
+mod Faults
+mod Marking
+mod RefRounds

@@ -5,3 +5,4 @@ pub mod HeardInside
 pub mod Splits
 pub mod ChainInside
 pub mod Readings
+pub mod Refs

@@ -5,6 +5,8 @@ mod chain;
 mod heard;
 mod learning;
 mod line;
+mod refs;
 mod split;
 
 pub use chain::Chain;
+pub use refs::{read_ref, write_ref};
