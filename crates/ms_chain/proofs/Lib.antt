@@ -8,5 +8,6 @@ mod ReadingOn
 mod Telling
 mod Rounds
 mod Faults
+mod ReadingAll
 mod Marking
 mod RefRounds
