@@ -1,13 +1,17 @@
 -- A chain that reads the lists of the services, one after another.
-use Rattle.std.proofs.Common.{◌≡◌, ℕ, ◌+◌, ◌<◌, ◌≤◌, Bool, true, false, List, [], ◌∷◌, ◌++◌, Some, inl, inr, refl, sym, ap, ◌∙◌, subst, slice_get, length, length-append, append_assoc, arith, Contains}
+use Rattle.std.proofs.Common.{◌≡◌, ℕ, ◌+◌, ◌<◌, ◌≤◌, Bool, Result, Ok, Err, true, false, List, [], ◌∷◌, ◌++◌, Some, inl, inr, refl, sym, ap, ◌∙◌, subst, slice_get, length, length-append, append_assoc, arith, Contains}
 use mathlib.Core.List.{IsPrefix}
+use Rattle.std.specs.Prelude.{IfErr}
 use Rattle.std.proofs.lemmas.Bool.{cases_eq}
 use Rattle.std.proofs.lemmas.List.{append-nil}
 use Rattle.std.proofs.lemmas.Option.{slice_get_within}
 use Rattle.ms_base.specs.Places.{append_cases}
 use Rattle.ms_ken.specs.Prefixes.{prefix_self, prefix_trans}
 use Rattle.ms_link.specs.Composing.{learns_on, learns_self}
-use Rattle.ms_link.specs.Links.{LinkView}
+use Rattle.ms_link.specs.Links.{Learns as PassLearns, LinkView}
+use Rattle.ms_core.specs.Views.{IsClosed}
+use Rattle.ms_ken.specs.Known.{Known}
+use Rattle.ms_record.specs.declared.item.Item.{Item}
 use Rattle.ms_local.specs.declared.deed.Deed.{Deed}
 use Rattle.ms_local.specs.declared.deed.Deed.TheVariants.{Listed}
 use Rattle.ms_local.specs.Desks.{DeskView, IsDesk, KnowsTold, LanesStay}
@@ -17,7 +21,7 @@ use Rattle.ms_chain.specs.Readings.{DeskGoes, IsBroken, IsRead, ListsGoOn, Reads
 use Rattle.ms_chain.proofs.Faults.{fault_before, fault_on}
 use Rattle.ms_chain.proofs.Places.{length_more}
 use Rattle.ms_chain.proofs.Rounds.{each_more, failed_no, failed_yes, none_failed}
-use Rattle.ms_chain.proofs.Telling.{told_texts}
+use Rattle.ms_chain.proofs.Telling.{TextsOn, told_texts}
 
 -- what was read so far from the first desk on, and the reading of the list of service n
 pub record Reads (start mid new : ChainView) (first here after : DeskView) (n : ℕ) : Type 0 where
@@ -121,6 +125,21 @@ none_read chain desk lanes_self is of = record {
 
 -- ---- one service more
 
+-- what the law of tellings says
+abbrev pub ToldOn : Type 0
+ToldOn = (desk : DeskView) (pass : Known Item) (setting : Setting) → IsClosed pass.lists → PassLearns desk.pass pass → KnowsTold desk setting → KnowsTold (record desk { pass = pass }) setting
+
+pub reads_here : (start mid new : ChainView) (first here after : DeskView) (n : ℕ) (failed : List ℕ) → ToldOn → TextsOn → HasReadOn start mid first here n failed → IsClosed here.pass.lists → DeskGoes here after
+    → ((x : ℕ) → (x ≡ n → ⊥) → texts_read new x ≡ texts_read mid x) → Reads start mid new first here after n
+reads_here start mid new first here after n failed told_on texts_on h closed goes others = record {
+  before = h.effect.lanes;
+  behind = goes.lanes;
+  told = λ setting told. told_on first here.pass setting closed h.effect.pass told;
+  texts = texts_on first.pass.lists here.pass.lists n 0 h.effect.pass.more;
+  same = h.reads.no_others n (omega arith);
+  others = others;
+}
+
 -- each service that failed is below n
 pub failed_below : (start now : ChainView) (first here : DeskView) (n : ℕ) (failed : List ℕ) → HasReadOn start now first here n failed → (s : ℕ) → Contains failed s → s < n
 failed_below start now first here n failed h s is =
@@ -189,3 +208,7 @@ module _ (start mid new : ChainView) (first here after : DeskView) (n : ℕ) (fa
           | inr ne ↦ r.others s ne ∙ h.no_others s (omega arith)
         ];
   }
+
+pub if_err : {T E : Type 0} (r : Result T E) (P : Type 0) → P → IfErr r (λ _. P)
+if_err (Ok x) P p = tt
+if_err (Err e) P p = p

@@ -77,9 +77,11 @@ impl Chain {
         ensures chain { IsOfDesk self.new (desk_view W.sees K.sees L.sees desk.new) }
     {
         desks_stay();
-        calls_compose();
+        tellings_stay();
+        views_grow();
         let mut failed = ServiceSet::none();
         for service in 0..desk.services {
+            desk.pass.recall();
             if !self.read_one(alloc, desk, ServiceId(service))? {
                 failed.add(ServiceId(service));
             }
