@@ -6,7 +6,7 @@ use Rattle.std.proofs.lemmas.Option.{get_or_from_slice_get, slice_get-get_or, sl
 use Rattle.ms_base.specs.Counts.{Rose}
 use Rattle.ms_base.specs.Places.{set_here, set_there}
 use Rattle.ms_core.specs.Asking.{MayAsk}
-use Rattle.ms_core.specs.Views.{IsClosed, configuration, log_in, offers_told}
+use Rattle.ms_core.specs.Views.{IsClosed}
 use Rattle.ms_ken.specs.Known.{Known, TableId}
 use Rattle.ms_ken.specs.Lists.{MayFollow, list_at}
 use Rattle.ms_link.specs.Composing.{stays_on, stays_self}
@@ -18,7 +18,6 @@ use Rattle.ms_record.specs.declared.item.Item.TheVariants.{Log}
 use Rattle.ms_base.specs.declared.names.Name.{Name}
 use Rattle.ms_record.specs.declared.log.LogEvent.{LogEvent}
 use Rattle.ms_record.specs.declared.log.LogEvent.TheVariants.{Drop}
-use Rattle.ms_record.specs.declared.setting.Setting.{Setting}
 use Rattle.ms_record.specs.Items.{events_of}
 use Rattle.ms_record.specs.Logs.{NoDropAbove, Stands, texts_in}
 use Rattle.ms_local.specs.Calls.{AppendsAt, DeskCalls, GetsAt, HasAt, IsFloor, IsSupportedAt, ListsAt, OnKept, PutsAt}

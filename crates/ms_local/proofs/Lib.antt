@@ -5,3 +5,4 @@ mod KeepingLaws
 mod DeskLaws
 mod Showing
 mod FirstLane
+mod GoingOn

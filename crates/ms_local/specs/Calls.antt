@@ -27,6 +27,16 @@ pub record DeskCalls (service : ℕ) (old new : DeskView) : Type 0 where
   pub lanes : LanesStay old.lanes new.lanes
   pub others : (s : ℕ) → s ≢ service → first_link new s ≡ first_link old s
 
+-- links of any lane were called and the pass learns, and deeds were noted; all else stays
+pub record DeskGoes (old new : DeskView) : Type 0 where
+  pub same : new ≡ record old { pass = new.pass; lanes = new.lanes; deeds = new.deeds }
+  pub pass : PassLearns old.pass new.pass
+  pub lanes : LanesStay old.lanes new.lanes
+
+-- a setting that was told stays told
+abbrev pub StaysTold : DeskView → DeskView → Type 0
+StaysTold old new = (setting : Setting) → KnowsTold old setting → KnowsTold new setting
+
 -- the texts of a service's list, from a place on, to an end that the pass then knows
 abbrev pub ListsAt : DeskView → DeskView → ℕ → ℕ → ℕ → Result (List (List ℕ)) LinkError → Type 0
 ListsAt old new s list from (Ok texts) = OnTold old (texts ≡ drop from (texts_in list (log_in new.pass.lists s)))

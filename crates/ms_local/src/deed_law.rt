@@ -1,12 +1,19 @@
 //! Laws of the deeds of a command.
 
-ghost use Rattle.std.specs.Prelude.{◌≡◌, ◌+◌, ◌<◌, ◌++◌, ◌∷◌, [], ℕ, Bool, true, List, Some, Contains};
+ghost use Rattle.std.specs.Prelude.{◌≡◌, ◌+◌, ◌<◌, ◌≤◌, ◌++◌, ◌∷◌, [], ℕ, Bool, true, List, Some, Contains};
+ghost use Rattle.ms_core.specs.Views.{IsClosed, log_in};
 ghost use Rattle.ms_record.specs.declared.entry.Entry.{Entry};
+ghost use Rattle.ms_record.specs.declared.log.LogEvent.{LogEvent};
 ghost use Rattle.ms_record.specs.declared.record.Record.{Record};
 ghost use Rattle.ms_record.specs.declared.record.Record.TheVariants.{Accept};
 ghost use Rattle.ms_local.specs.declared.deed.Deed.{Deed};
 ghost use Rattle.ms_local.specs.declared.deed.Deed.TheVariants as deed;
+ghost use Rattle.ms_local.specs.Calls.{DeskCalls, DeskGoes, StaysTold};
+ghost use Rattle.ms_local.specs.Desks.{DeskView, HasFault, IsDesk, faults_at, with_deed};
+ghost use Rattle.ms_local.specs.Truths.{IsTrueDeed, OwnHistory, TrueDeeds, TrueLooks, offers_of};
 ghost use Rattle.ms_local.specs.Rules.{Bidding, Did, HasRun, Intent, IsDecided, Run, ShowsIn, Step, begun_at, bid_begun, done, promised_by, taken_by};
+
+use ms_core::item_law::{configuration_stays, views_grow};
 
 /// Deeds of one call and then of another are those of both, and what keeps the rules does so up to each place.
 pub fn deeds_compose()
@@ -43,4 +50,33 @@ pub fn deeds_show()
     ensures promised { (n who read : ℕ) (own : List Intent) (deeds : List Deed) (t : Bidding) (voters : List ℕ) (round service : ℕ)
         → Run who (begun_at n read) own deeds t → t.kept ≡ Some round → promised_by voters t.looks service ≡ true
         → (front rest : List Deed) × (deeds ≡ front ++ deed.Kept round true ∷ rest) × ShowsIn rest service (λ sight. sight.promised) }
+{}
+
+/// A desk goes on by nothing, from call to call, by a call, noted or not.
+pub fn desks_go_on()
+    ensures nothing { (desk : DeskView) → DeskGoes desk desk }
+    ensures on { (old mid new : DeskView) → DeskGoes old mid → DeskGoes mid new → DeskGoes old new }
+    ensures called { (service : ℕ) (old new : DeskView) → DeskCalls service old new → DeskGoes old new }
+    ensures noted { (service : ℕ) (old new : DeskView) (deed : Deed) → DeskCalls service (with_deed old deed) new → DeskGoes old new }
+    // What was told stays so, where nothing else is told by then; no event goes, and no count of faults falls.
+    ensures told { (old new : DeskView) → IsClosed new.pass.lists → DeskGoes old new → StaysTold old new }
+    ensures events { (old new : DeskView) (service : ℕ) (event : LogEvent) → DeskGoes old new → Contains (log_in old.pass.lists service) event → Contains (log_in new.pass.lists service) event }
+    ensures faults { (old new : DeskView) (service : ℕ) → DeskGoes old new → faults_at old service ≤ faults_at new service }
+    // A fault between two moments is one between an earlier and a later one.
+    ensures wider { (old low high new : DeskView) (service : ℕ) → DeskGoes old low → DeskGoes high new → HasFault low high service → HasFault old new service }
+{
+    configuration_stays();
+    views_grow();
+}
+
+/// The deeds of a desk that goes on are true, and its own list is told by them.
+pub fn truths_go_on()
+    ensures nothing { (desk : DeskView) → TrueDeeds desk desk }
+    ensures on { (old mid new : DeskView) → DeskGoes old mid → StaysTold old mid → DeskGoes mid new → TrueDeeds old mid → TrueDeeds mid new → TrueDeeds old new }
+    ensures noted { (old new : DeskView) (deed : Deed) → new.deeds ≡ old.deeds ++ deed ∷ [] → IsTrueDeed old new deed
+        → ((position round : ℕ) → TrueLooks old new position round (deed ∷ [])) → TrueDeeds old new }
+    ensures own_nothing { (desk : DeskView) → OwnHistory desk desk }
+    ensures own_on { (old mid new : DeskView) → DeskGoes old mid → OwnHistory old mid → OwnHistory mid new → OwnHistory old new }
+    // Calls tell nothing in the own list.
+    ensures own_called { (old new : DeskView) (deeds : List Deed) → IsDesk old → DeskGoes old new → new.deeds ≡ old.deeds ++ deeds → offers_of deeds ≡ [] → OwnHistory old new }
 {}

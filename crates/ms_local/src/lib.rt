@@ -16,7 +16,7 @@ pub mod spelling;
 
 pub use calling::{append_noted, append_text, list_noted, list_texts};
 pub use deed::{Deed, Deeds, Message};
-pub use deed_law::{deeds_compose, deeds_go_on, deeds_show};
+pub use deed_law::{deeds_compose, deeds_go_on, deeds_show, desks_go_on, truths_go_on};
 pub use desk::{Desk, Lane, begin_line};
 pub use desk_law::{desks_lead, desks_stay, tellings_stay};
 pub use keeping::{KeptError, read_kept, write_kept};
