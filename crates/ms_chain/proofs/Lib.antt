@@ -9,5 +9,6 @@ mod Telling
 mod Rounds
 mod Faults
 mod ReadingAll
+mod Gaining
 mod Marking
 mod RefRounds

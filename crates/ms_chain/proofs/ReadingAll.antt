@@ -66,7 +66,7 @@ begins_by : (old new : ChainView) (before after : DeskView) (s count : ℕ) (ok 
 begins_by old new before after s count true b = (let e = b.0 in omega (arith, e))
 begins_by old new before after s count false b = b
 
-starts_by : (old new : ChainView) (before after : DeskView) (s : ℕ) (deed : Deed) → ReadsOn old new before after s deed → StartsOn old new before after s deed
+pub starts_by : (old new : ChainView) (before after : DeskView) (s : ℕ) (deed : Deed) → ReadsOn old new before after s deed → StartsOn old new before after s deed
 starts_by old new before after s (Listed service list from count ok) h = (h.0, h.1, h.2, begins_by old new before after s count ok h.3)
 starts_by old new before after s deed h = absurd h
 

@@ -8,11 +8,11 @@ ghost use Rattle.ms_local.specs.Learning.{IsOfDesk, ReadsSome, texts_read};
 use crate::chain::Chain;
 use ms_base::{NoMemory, ServiceId};
 use ms_core::FoldClosed;
-use ms_core::item_law::{configuration_stays, views_grow};
-use ms_core::view_law::{linked_lists, told_views};
-use ms_link::law::{asks_stay, calls_compose, logs_grow};
+use ms_core::item_law::views_grow;
+use ms_core::view_law::told_views;
 use ms_link::{Link, Texts};
 use ms_local::{Desk, Keeper, Learner, Learnt, Work, desks_stay, list_noted, tellings_stay};
+use ms_record::law::one_chain;
 use ms_record::{Entry, ListId, Refusal, ServiceSet};
 use std::alloc::Global;
 
@@ -94,8 +94,9 @@ impl<W: Work + Drop, K: Keeper + Drop, L: Link<FoldClosed> + Drop> Learner<W, K,
     ghost sees = { λ chain. chain };
 
     fn learn(&mut self, alloc: Global, desk: &mut Desk<W, K, L>) -> Result<Learnt, Refusal> {
+        tellings_stay();
         told_views();
-        linked_lists();
+        one_chain();
         let failed = self.read_all(alloc, desk)?;
         let behind = self.extend()?;
         desk.pass.recall();
