@@ -1,7 +1,6 @@
 -- The counts of faults of a desk's first lane do not fall from call to call.
 use Rattle.std.proofs.Common.{◌≡◌, ◌≢◌, ℕ, zero, suc, ◌≤◌, List, [], ◌∷◌, Option, Some, None, refl, ap, subst, slice_get, slice_index_or, length, arith}
 use Rattle.std.specs.Option.{option_map_or}
-use Rattle.ms_base.specs.Counts.{Rose}
 use Rattle.ms_link.specs.Composing.{rose_before, rose_on}
 use Rattle.ms_link.specs.Links.{LinkView, Stays}
 use Rattle.ms_local.specs.Desks.{DeskView, HasFault, LanesStay, LinksStay, faults_at, first_link}

@@ -1,16 +1,16 @@
 -- A chain that has read on and gained members: at its desk, and in what it answers.
-use Rattle.std.proofs.Common.{◌≡◌, ℕ, ◌+◌, ◌<◌, ◌≤◌, Bool, true, false, List, [], ◌∷◌, ◌++◌, Option, Some, None, Result, Ok, Err, inl, inr, ◌⊎◌, refl, sym, ap, ◌∙◌, subst, slice_get, slice_index_or, length, take, arith, Contains}
+use Rattle.std.proofs.Common.{◌≡◌, ℕ, ◌+◌, ◌<◌, ◌≤◌, Bool, true, false, List, [], ◌∷◌, ◌++◌, Option, Some, None, Result, Ok, Err, inl, inr, refl, sym, ap, ◌∙◌, subst, slice_get, slice_index_or, length, take, arith}
 use mathlib.Core.List.{IsPrefix}
 use Rattle.std.proofs.lemmas.Bool.{cases_lt}
 use Rattle.std.proofs.lemmas.Option.{slice_get_within}
 use Rattle.ms_base.specs.Places.{contains_at}
-use Rattle.ms_core.specs.Views.{Tells, View, log_in, votes_told}
+use Rattle.ms_core.specs.Views.{log_in, votes_told}
 use Rattle.ms_ken.specs.Prefixes.{prefix_self, prefix_trans}
 use Rattle.ms_local.specs.declared.deed.Deed.{Deed}
 use Rattle.ms_local.specs.declared.deed.Deed.TheVariants.{Listed}
 use Rattle.ms_local.specs.declared.learner.Learnt.{Learnt}
-use Rattle.ms_local.specs.Desks.{DeskView, IsDesk, KnowsTold, OnTold}
-use Rattle.ms_local.specs.Learning.{Begins, Brings, ChainGrows, ChainView, DeskLearns, IsKnown, IsListing, IsNextRead, IsOfDesk, IsSplit, IsWhole, LacksMajority, Learns, ReadsAll, ReadsOn, ReadsSome, StartsOn, texts_read, votes_read}
+use Rattle.ms_local.specs.Desks.{DeskView, OnTold}
+use Rattle.ms_local.specs.Learning.{Begins, Brings, ChainGrows, ChainView, DeskLearns, IsKnown, IsListing, IsOfDesk, IsSplit, IsWhole, LacksMajority, Learns, ReadsAll, ReadsOn, ReadsSome, StartsOn, texts_read, votes_read}
 use Rattle.ms_record.specs.declared.entry.Entry.{Entry}
 use Rattle.ms_record.specs.declared.record.Record.{Record}
 use Rattle.ms_record.specs.declared.refusal.Refusal.{Refusal}
@@ -18,7 +18,7 @@ use Rattle.ms_record.specs.declared.refusal.Refusal.TheVariants as refusals
 use Rattle.ms_record.specs.declared.setting.Setting.{Setting}
 use Rattle.ms_record.specs.Chains.{Agrees, IsChosen, IsLinked, LinksBehind, Origin, voters_behind}
 use Rattle.ms_record.specs.Growing.{chosen_grows}
-use Rattle.ms_record.specs.Logs.{vote_texts, votes_in}
+use Rattle.ms_record.specs.Logs.{vote_texts}
 use Rattle.ms_record.specs.Offers.{GrowsTo}
 use Rattle.ms_record.specs.Reading.{record_at, votes_of, with_record}
 use Rattle.ms_record.specs.Settings.{origin_of}
@@ -27,7 +27,6 @@ use Rattle.ms_chain.specs.Readings.{DeskGoes, ListsGoOn, ReadsUpTo}
 use Rattle.ms_chain.specs.Splits.{AnswersOf}
 use Rattle.ms_chain.proofs.Places.{length_take, place_left, take_left}
 use Rattle.ms_chain.proofs.ReadingAll.{starts_by}
-use Rattle.ms_chain.proofs.Splitting.{grows_self}
 
 -- ---- one chain's lists are another's
 
@@ -143,18 +142,16 @@ linked_on votes mid new grows g h = record { chosen = λ i e got. (at i e got).0
           | inl lt ↦
               let p = g.members in
               let here : slice_get mid.members i ≡ Some e = sym (place_left mid.members p.0 i lt) ∙ ap (λ (ms : List Entry). slice_get ms i) p.1 ∙ got in
-              let front : take i mid.members ≡ take i new.members = sym (take_left i mid.members p.0 (omega arith)) ∙ ap (λ (ms : List Entry). take i ms) p.1 in
-              (
+              let front : take i mid.members ≡ take i new.members = sym (take_left i mid.members p.0 (omega arith)) ∙ ap (λ (ms : List Entry). take i ms) p.1 in (
                 subst (λ (ms : List Entry). ChosenBy votes (voters_behind (origin_of new.setting) ms) (i + 1) e) front (h.chosen i e here),
                 subst (λ (ms : List Entry). LinksBehind (origin_of new.setting) ms e) front (h.links i e here),
               )
           | inr le ↦
               let next = g.gained i e le got in
               let lt = slice_get_within new.members i e got in
-              let many : length (take i new.members) ≡ i = length_take i new.members (omega arith) in
-              (
+              let many : length (take i new.members) ≡ i = length_take i new.members (omega arith) in (
                 chosen_grows (votes_read new) votes (voters_behind (origin_of new.setting) (take i new.members)) (i + 1) e grows
-                (subst (λ (n : ℕ). ChosenBy (votes_read new) (voters_behind (origin_of new.setting) (take i new.members)) (n + 1) e) many next.chosen),
+                    (subst (λ (n : ℕ). ChosenBy (votes_read new) (voters_behind (origin_of new.setting) (take i new.members)) (n + 1) e) many next.chosen),
                 next.links,
               )
         ]

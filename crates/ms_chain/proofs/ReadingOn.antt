@@ -1,11 +1,11 @@
 -- A chain that reads a list on.
-use Rattle.std.proofs.Common.{◌≡◌, ℕ, zero, suc, ◌+◌, ◌<◌, ◌≤◌, Bool, true, false, List, [], ◌∷◌, ◌++◌, Option, Some, None, Result, Ok, Err, ◌⊎◌, inl, inr, ◌↔◌, refl, sym, ap, ◌∙◌, subst, slice_get, slice_set, slice_index_or, length, drop, take, arith, length-append, append_assoc, Contains}
+use Rattle.std.proofs.Common.{◌≡◌, ℕ, ◌<◌, List, [], ◌∷◌, ◌++◌, Result, Ok, Err, inl, inr, refl, sym, ap, ◌∙◌, subst, slice_set, length, drop, arith, append_assoc}
 use mathlib.Core.List.{IsPrefix}
 use Rattle.std.specs.Result.{IsErr}
 use Rattle.std.proofs.lemmas.Bool.{cases_eq}
 use Rattle.std.proofs.lemmas.List.{get_or-set_other, get_or-set_same, length-set, set-get_or, set-set}
 use Rattle.ms_base.specs.declared.bytes.NoMemory.{NoMemory}
-use Rattle.ms_ken.specs.Prefixes.{prefix_of_nil, prefix_self, prefix_trans}
+use Rattle.ms_ken.specs.Prefixes.{prefix_self}
 use Rattle.ms_local.specs.Learning.{ChainView, texts_read}
 use Rattle.ms_chain.specs.Readings.{ListsGoOn, TakesTexts, with_texts}
 

@@ -1,42 +1,36 @@
 -- Rounds of refs, one service after another.
-use Rattle.std.proofs.Common.{◌≡◌, ℕ, zero, suc, ◌+◌, ◌*◌, ◌<◌, ◌≤◌, ◌==◌, Bool, true, false, List, [], ◌∷◌, ◌++◌, Option, Some, None, Result, Ok, Err, ◌⊎◌, inl, inr, refl, sym, ap, ◌∙◌, subst, slice_get, length, drop, length-append, append_assoc, count_by, arith, Contains, eq-eqb}
+use Rattle.std.proofs.Common.{◌≡◌, ℕ, zero, suc, ◌+◌, ◌<◌, ◌≤◌, ◌==◌, Bool, true, false, List, [], ◌∷◌, ◌++◌, Option, Some, None, Result, Ok, Err, ◌⊎◌, inl, inr, refl, sym, ap, ◌∙◌, subst, slice_get, length, length-append, append_assoc, count_by, arith, Contains, eq-eqb}
 use mathlib.Core.List.{IsPrefix}
 use Rattle.std.specs.List.{list_any}
-use Rattle.std.specs.Prelude.{IfOk, IsSomeAnd}
+use Rattle.std.specs.Prelude.{IsSomeAnd}
 use Rattle.std.proofs.lemmas.Bool.{cases_lt}
 use Rattle.std.proofs.lemmas.List.{append-nil}
 use Rattle.std.proofs.lemmas.List.Elements.{Contains-append_left, Contains-append_right, filter_map-append}
 use Rattle.std.proofs.lemmas.Map.Keys.{any_passes_from_place}
 use Rattle.std.proofs.lemmas.Option.{slice_get_within}
 use Rattle.ms_base.specs.CountLaws.{count_known}
-use Rattle.ms_base.specs.Places.{at_contains, contains_at, in_cases, in_none, some_or_past}
+use Rattle.ms_base.specs.Places.{contains_at, in_none, some_or_past}
 use Rattle.ms_base.specs.declared.bytes.NoMemory.{NoMemory}
 use Rattle.ms_base.specs.declared.names.ServiceId.{ServiceId}
 use Rattle.ms_core.specs.Views.{log_in}
-use Rattle.ms_ken.specs.Known.{Known}
-use Rattle.ms_ken.specs.Lists.{list_at}
 use Rattle.ms_ken.specs.Prefixes.{prefix_self, prefix_trans}
 use Rattle.ms_link.specs.Composing.{added_text, learns_on, learns_self}
 use Rattle.ms_link.specs.Links.{LinkView, Learns as PassLearns}
-use Rattle.ms_local.specs.Calls.{AppendsNoted, DeskCalls, ListsNoted, message_text}
+use Rattle.ms_local.specs.Calls.{AppendsNoted, DeskCalls, ListsNoted}
 use Rattle.ms_local.specs.declared.deed.Deed.{Deed}
 use Rattle.ms_local.specs.declared.deed.Deed.TheVariants.{Appended, Listed}
 use Rattle.ms_local.specs.declared.deed.Message.{Message}
 use Rattle.ms_local.specs.declared.deed.Message.TheVariants.{Ref}
-use Rattle.ms_local.specs.Desks.{DeskView, IsDesk, KnowsTold, LanesStay, OnTold, with_deed}
-use Rattle.ms_local.specs.Learning.{HasHalf}
-use Rattle.ms_record.specs.declared.item.Item.{Item}
+use Rattle.ms_local.specs.Desks.{DeskView, IsDesk, KnowsTold, LanesStay, with_deed}
 use Rattle.ms_record.specs.declared.log.ListId.{ListId}
 use Rattle.ms_record.specs.declared.mark.RefMark.{RefMark}
-use Rattle.ms_record.specs.declared.refusal.Refusal.{Refusal}
-use Rattle.ms_record.specs.declared.refusal.Refusal.TheVariants as refusals
 use Rattle.ms_record.specs.declared.setting.Setting.{Setting}
 use Rattle.ms_record.specs.Logs.{texts_in}
 use Rattle.ms_record.specs.Marks.{mark_at, mark_text}
 use Rattle.ms_record.specs.Voters.{voter_below}
 use Rattle.ms_record.specs.Votes.{services_below}
 use Rattle.ms_chain.specs.Readings.{DeskGoes}
-use Rattle.ms_chain.specs.Refs.{IsFirstGreatest, IsLook, IsRound, IsUnanswered, IsWrite, KnownByMost, Looks, LooksAll, LooksOne, HasFailed, ReadsRef, TellsOn, Writes, WritesAll, WritesOne, marks_from, marks_of, ref_texts}
+use Rattle.ms_chain.specs.Refs.{IsFirstGreatest, IsLook, IsRound, IsUnanswered, IsWrite, KnownByMost, Looks, LooksAll, LooksOne, HasFailed, TellsOn, Writes, WritesOne, marks_from, marks_of, ref_texts}
 use Rattle.ms_chain.proofs.Faults.{fault_before, fault_on}
 use Rattle.ms_chain.proofs.Marking.{at_most}
 use Rattle.ms_chain.proofs.Rounds.{each_more, failed_no, failed_yes, none_failed}

@@ -1,9 +1,9 @@
 -- Rounds of calls: one deed for each of the first services, in their order.
-use Rattle.std.proofs.Common.{◌≡◌, ℕ, zero, suc, ◌+◌, ◌<◌, ◌≤◌, List, [], ◌∷◌, ◌++◌, Some, ◌⊎◌, inl, inr, ◌↔◌, refl, sym, ap, ◌∙◌, subst, slice_get, length, arith, Contains}
+use Rattle.std.proofs.Common.{◌≡◌, ℕ, zero, suc, ◌<◌, List, [], ◌∷◌, ◌++◌, Some, inl, inr, ◌↔◌, refl, sym, ap, ◌∙◌, subst, slice_get, length, arith, Contains}
 use Rattle.std.proofs.lemmas.List.Elements.{Contains-append_cases, Contains-append_left, Contains-append_right}
 use Rattle.std.proofs.lemmas.Option.{slice_get_within}
 use Rattle.ms_local.specs.declared.deed.Deed.{Deed}
-use Rattle.ms_chain.proofs.Places.{place_last, place_left, place_more, some_same}
+use Rattle.ms_chain.proofs.Places.{place_last, place_left, place_more}
 
 one_of : {A : Type 0} (x y : A) → Contains (x ∷ []) y → y ≡ x
 one_of x y (zero, lt, is) = sym is

@@ -1,34 +1,24 @@
 -- Where a chain is split, when it reads on and when it gains a member.
-use Rattle.std.proofs.Common.{◌≡◌, ℕ, ◌+◌, ◌-◌, ◌*◌, ◌<◌, ◌≤◌, true, List, [], ◌∷◌, ◌++◌, Option, Some, None, ◌⊎◌, inl, inr, refl, sym, ap, ◌∙◌, subst, slice_get, length, take, count_by, arith, Contains}
+use Rattle.std.proofs.Common.{◌≡◌, ℕ, ◌+◌, ◌<◌, ◌≤◌, List, [], ◌∷◌, ◌++◌, Option, Some, None, inl, inr, refl, sym, ap, ◌∙◌, subst, slice_get, length, take, arith}
 use Rattle.std.specs.Prelude.{IfNone, IfSome}
 use Rattle.std.specs.Option.{option_or}
-use mathlib.Core.List.{IsPrefix}
 use Rattle.std.proofs.lemmas.Bool.{cases_eq, cases_lt}
-use Rattle.std.proofs.lemmas.List.FromFn.{length-range_with_len, get_or-range_with_len}
 use Rattle.std.proofs.lemmas.Option.{slice_get_within}
-use Rattle.ms_base.specs.declared.limits.TheConstants.{LAST_NUMBER}
 use Rattle.ms_ken.specs.Prefixes.{prefix_item, prefix_self, prefix_trans}
 use Rattle.ms_local.specs.Learning.{ChainGrows, ChainView, IsNextRead, IsSeen, IsSplit, texts_read, votes_read}
 use Rattle.ms_record.specs.declared.entry.Entry.{Entry}
-use Rattle.ms_record.specs.declared.record.Record.{Record}
-use Rattle.ms_record.specs.declared.record.Record.TheVariants.{Accept}
 use Rattle.ms_record.specs.Chains.{LinksBehind, voters_behind}
-use Rattle.ms_record.specs.Entries.{name_of}
 use Rattle.ms_record.specs.Reading.{record_at}
-use Rattle.ms_record.specs.Records.{IsPosition}
 use Rattle.ms_record.specs.Settings.{origin_of}
-use Rattle.ms_record.specs.Votes.{ChosenBy, position_of, services_below}
+use Rattle.ms_record.specs.Votes.{ChosenBy}
 use Rattle.ms_replay.specs.Audits.{lists_of}
-use Rattle.ms_replay.specs.declared.standing.Standing.{Standing}
-use Rattle.ms_replay.specs.declared.standing.Standing.TheVariants.{Chosen, Seen, Split as TwoChosen, Unseen}
-use Rattle.ms_replay.specs.Standings.{IsFirstChosen, IsStanding, NoneChosen, NoneTaken}
 use Rattle.ms_replay.specs.Tallies.{IsVotedAt}
 use Rattle.ms_chain.specs.declared.split.Split.{Split}
 use Rattle.ms_chain.specs.Heard.{IsGreatestSeen, heard_more}
 use Rattle.ms_chain.specs.Lines.{LineView}
 use Rattle.ms_chain.specs.Splits.{BehindIs, IsSplitOf, SplitIs, SplitsAt, chain_of}
 use Rattle.ms_chain.proofs.Hearing.{GoesOnAt, chosen_back, chosen_on, heard_goes_on}
-use Rattle.ms_chain.proofs.Places.{length_more, place_left, place_more, some_passes, take_all, take_left}
+use Rattle.ms_chain.proofs.Places.{length_more, place_more, take_all, take_left}
 
 -- ---- it reads on
 

@@ -1,9 +1,8 @@
 -- What stands at a position, and whether a chain is split there.
-use Rattle.std.proofs.Common.{◌≡◌, ℕ, ◌+◌, ◌-◌, ◌*◌, ◌<◌, ◌≤◌, true, List, [], ◌∷◌, Option, Some, None, refl, sym, ap, ◌∙◌, subst, slice_get, length, take, count_by, arith, zero-add, Contains}
+use Rattle.std.proofs.Common.{◌≡◌, ℕ, ◌+◌, ◌-◌, ◌<◌, ◌≤◌, List, Some, refl, sym, ap, ◌∙◌, subst, slice_get, length, take, arith, zero-add, Contains}
 use Rattle.std.proofs.lemmas.List.FromFn.{length-range_with_len, get_or-range_with_len}
 use Rattle.ms_base.specs.declared.limits.TheConstants.{LAST_NUMBER}
-use Rattle.ms_local.specs.Learning.{IsNextRead, IsSplit, IsWhole}
-use Rattle.ms_record.specs.declared.ballot.Vote.{Vote}
+use Rattle.ms_local.specs.Learning.{IsNextRead, IsSplit}
 use Rattle.ms_record.specs.declared.entry.Entry.{Entry}
 use Rattle.ms_record.specs.declared.record.Record.{Record}
 use Rattle.ms_record.specs.declared.record.Record.TheVariants.{Accept}

@@ -1,5 +1,5 @@
 -- Chains that are known at a desk, as the desk learns and they read on.
-use Rattle.std.proofs.Common.{◌≡◌, ℕ, ◌+◌, ◌<◌, ◌≤◌, true, false, List, [], ◌∷◌, ◌++◌, Result, Ok, Err, Some, inl, inr, refl, sym, ap, ◌∙◌, subst, slice_get, length, drop, length-append, arith}
+use Rattle.std.proofs.Common.{◌≡◌, ℕ, ◌+◌, ◌<◌, ◌≤◌, true, List, [], ◌∷◌, ◌++◌, Result, Ok, Err, inl, inr, refl, sym, ap, ◌∙◌, subst, length, drop, length-append, arith}
 use mathlib.Core.List.{IsPrefix}
 use Rattle.std.specs.Prelude.{Bool}
 use Rattle.std.specs.Result.{IsErr}
@@ -10,13 +10,13 @@ use Rattle.ms_base.specs.Places.{alone}
 use Rattle.ms_core.specs.Views.{View, log_in, votes_told}
 use Rattle.ms_ken.specs.Known.{Known}
 use Rattle.ms_ken.specs.Lists.{Begins}
-use Rattle.ms_ken.specs.Prefixes.{prefix_length, prefix_self, prefix_trans}
+use Rattle.ms_ken.specs.Prefixes.{prefix_length, prefix_trans}
 use Rattle.ms_link.specs.Links.{Learns as PassLearns}
 use Rattle.ms_local.specs.declared.deed.Deed.{Deed}
 use Rattle.ms_local.specs.declared.deed.Deed.TheVariants.{Listed}
 use Rattle.ms_local.specs.Desks.{DeskView, IsDesk, KnowsTold, OnTold}
 use Rattle.ms_local.specs.Calls.{DeskCalls}
-use Rattle.ms_local.specs.Learning.{Brings, ChainView, IsKnown, IsOfDesk, StartsOn, texts_read}
+use Rattle.ms_local.specs.Learning.{Brings, ChainView, IsOfDesk, StartsOn, texts_read}
 use Rattle.ms_record.specs.declared.entry.Entry.{Entry}
 use Rattle.ms_record.specs.declared.item.Item.{Item}
 use Rattle.ms_record.specs.declared.log.ListId.{ListId}
@@ -24,7 +24,7 @@ use Rattle.ms_record.specs.declared.setting.Setting.{Setting}
 use Rattle.ms_record.specs.Chains.{IsLinked}
 use Rattle.ms_record.specs.Logs.{texts_in, vote_texts}
 use Rattle.ms_record.specs.Settings.{origin_of}
-use Rattle.ms_chain.specs.Readings.{IsBroken, IsRead, ReadsOne, with_texts}
+use Rattle.ms_chain.specs.Readings.{IsRead, ReadsOne, with_texts}
 use Rattle.ms_chain.proofs.ReadingOn.{reads_all, reads_front, texts_here, texts_there}
 
 -- the texts of the service's vote list, as far as the desk knows

@@ -1,6 +1,5 @@
 -- What is kept beside the texts that were read: their tally, and the greatest position that they show.
 use Rattle.std.specs.Prelude.{◌≡◌, ℕ, List, length, map}
-use Rattle.ms_base.specs.declared.bytes.Bytes.{Bytes}
 use Rattle.ms_chain.specs.declared.heard.Heard.TheInside.{Inside}
 use Rattle.ms_chain.specs.Heard.{IsGreatestSeen}
 use Rattle.ms_replay.specs.Audits.{lists_of}

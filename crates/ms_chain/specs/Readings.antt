@@ -1,5 +1,5 @@
 -- How a chain reads on at a desk.
-use Rattle.std.specs.Prelude.{◌≡◌, ◌↔◌, ◌<◌, ◌≤◌, ◌⊎◌, ℕ, Bool, false, List, [], ◌∷◌, ◌++◌, Result, Ok, Err, Some, Contains, length, slice_get, slice_set}
+use Rattle.std.specs.Prelude.{◌≡◌, ◌↔◌, ◌≤◌, ℕ, Bool, false, List, [], ◌∷◌, ◌++◌, Result, Ok, Err, Some, Contains, length, slice_get, slice_set}
 use mathlib.Core.List.{IsPrefix}
 use Rattle.ms_base.specs.declared.bytes.NoMemory.{NoMemory}
 use Rattle.ms_link.specs.Links.{Learns as PassLearns}

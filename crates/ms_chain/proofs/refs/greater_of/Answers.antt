@@ -1,4 +1,3 @@
-use Rattle.std.proofs.Common.{◌<◌, ◌≤◌, arith}
 use Rattle.ms_chain.proofs.Marking.{comes_first, stays_first}
 use Rattle.ms_chain.proofs.refs.greater_of.Goals as goal
 

@@ -1,4 +1,4 @@
-use Rattle.std.proofs.Common.{◌≡◌, ℕ, ◌+◌, ◌<◌, List, [], ◌∷◌, ◌++◌, Option, Some, None, refl, sym, ap, ◌∙◌, subst, length, take, take_all, append_assoc, arith}
+use Rattle.std.proofs.Common.{◌≡◌, ℕ, ◌+◌, List, [], ◌∷◌, ◌++◌, sym, ap, ◌∙◌, subst, take, take_all, append_assoc, arith}
 use Rattle.ms_record.specs.declared.mark.RefMark.{RefMark}
 use Rattle.ms_chain.specs.Refs.{IsFirstGreatest, marks_of}
 use Rattle.ms_record.specs.Marks.{mark_at}

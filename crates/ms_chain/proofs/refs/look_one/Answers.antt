@@ -1,4 +1,4 @@
-use Rattle.std.proofs.Common.{◌≡◌, ◌+◌, refl}
+use Rattle.std.proofs.Common.{◌+◌, refl}
 use Rattle.ms_local.specs.Desks.{desk_view}
 use Rattle.ms_record.specs.declared.log.ListId.{ListId}
 use Rattle.ms_chain.proofs.RefRounds.{lists_learn, looked}

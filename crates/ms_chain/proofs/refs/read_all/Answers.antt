@@ -1,5 +1,5 @@
-use Rattle.std.proofs.Common.{◌≡◌, ℕ, ◌+◌, ◌<◌, ◌≤◌, List, [], ◌∷◌, ◌++◌, Option, None, Ok, refl, sym, ap, ◌∙◌, subst, arith}
-use Rattle.ms_local.specs.Desks.{DeskView, desk_view}
+use Rattle.std.proofs.Common.{ℕ, ◌+◌, List, [], ◌∷◌, ◌++◌, Option, None, Ok, sym, ◌∙◌, subst, arith}
+use Rattle.ms_local.specs.Desks.{desk_view}
 use Rattle.ms_chain.proofs.RefRounds.{LooksOn, looks_came, looks_failed, looks_halt, looks_start}
 use Rattle.ms_record.specs.declared.services.ServiceSet.{ServiceSet}
 use Rattle.ms_chain.specs.Refs.{LooksOne}

@@ -1,5 +1,4 @@
-use Rattle.std.proofs.Common.{◌≡◌, ◌∙◌, sym, ap, subst, Bool, true, false, List, ℕ}
-use Rattle.std.specs.Prelude.{IsTrue}
+use Rattle.std.proofs.Common.{◌≡◌, sym, subst, true, false}
 use Rattle.ms_local.specs.Desks.{desk_view}
 use Rattle.ms_local.specs.Learning.{HasHalf}
 use Rattle.ms_chain.specs.Refs.{HasFailed}

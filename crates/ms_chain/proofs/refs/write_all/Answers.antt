@@ -1,5 +1,5 @@
-use Rattle.std.proofs.Common.{◌≡◌, ℕ, ◌+◌, ◌<◌, ◌≤◌, Bool, List, Ok, refl, sym, ap, ◌∙◌, subst, arith}
-use Rattle.ms_local.specs.Desks.{DeskView, desk_view}
+use Rattle.std.proofs.Common.{◌+◌, Bool, Ok, sym, ap, ◌∙◌, subst, arith}
+use Rattle.ms_local.specs.Desks.{desk_view}
 use Rattle.ms_chain.proofs.RefRounds.{WritesOn, writes_came, writes_failed, writes_halt, writes_start}
 use Rattle.ms_chain.specs.Refs.{WritesOne}
 use Rattle.ms_chain.proofs.refs.write_all.Goals as goal

@@ -1,4 +1,4 @@
-use Rattle.std.proofs.Common.{◌≡◌, ◌+◌, refl}
+use Rattle.std.proofs.Common.{◌+◌, refl}
 use Rattle.ms_local.specs.declared.deed.Message.TheVariants.{Ref}
 use Rattle.ms_local.specs.Desks.{desk_view}
 use Rattle.ms_chain.proofs.RefRounds.{appends_learn, wrote}

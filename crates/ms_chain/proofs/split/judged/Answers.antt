@@ -1,8 +1,7 @@
-use Rattle.std.proofs.Common.{◌≡◌, ℕ, ◌<◌, ◌≤◌, List, Option, Some, None, refl, sym, ap, ◌∙◌, subst, length, arith}
+use Rattle.std.proofs.Common.{◌≡◌, ℕ, ◌≤◌, Some, None, sym, ◌∙◌, subst, length, arith}
 use Rattle.ms_record.specs.Reading.{record_at}
 use Rattle.ms_replay.specs.Audits.{lists_of}
 use Rattle.ms_replay.specs.Tallies.{IsVotedAt}
-use Rattle.ms_chain.specs.declared.split.Split.{Split}
 use Rattle.ms_chain.specs.Splits.{SplitIs, chain_of}
 use Rattle.ms_chain.proofs.Places.{some_same}
 use Rattle.ms_chain.proofs.Splitting.{heard_as, judged_is, known_stays, none_stays}

@@ -1,7 +1,4 @@
-use Rattle.std.proofs.Common.{◌≡◌, ℕ, ◌+◌, ◌<◌, ◌≤◌, List, ◌∙◌, ap, sym, subst, length, arith, Contains}
-use Rattle.ms_record.specs.declared.entry.Entry.{Entry}
-use Rattle.ms_base.specs.declared.limits.TheConstants.{LAST_NUMBER}
-use Rattle.ms_replay.specs.declared.standing.Standing.{Standing}
+use Rattle.std.proofs.Common.{ℕ, ◌+◌, ◌<◌, ◌∙◌, ap, sym, subst, arith}
 use Rattle.ms_chain.proofs.Standings.{StandsBehind, below_behind, next_else, next_member, next_past, next_two, next_unlinked, stands_behind}
 use Rattle.ms_chain.proofs.split.next_of.Goals as goal
 

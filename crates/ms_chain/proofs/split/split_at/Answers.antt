@@ -1,6 +1,5 @@
-use Rattle.std.proofs.Common.{◌≡◌, ℕ, ◌<◌, List, Some, refl, sym, subst, length}
-use Rattle.ms_record.specs.declared.entry.Entry.{Entry}
-use Rattle.ms_chain.proofs.Standings.{split_none, split_some}
+use Rattle.std.proofs.Common.{ℕ, ◌<◌, sym, subst, length}
+use Rattle.ms_chain.proofs.Standings.{split_none}
 use Rattle.ms_chain.proofs.split.split_at.Goals as goal
 
 pub standing-requires-clause-below : goal.standing-requires-clause-below

@@ -1,4 +1,4 @@
-use Rattle.std.proofs.Common.{◌≡◌, ℕ, List, Option, None, Some, sym, ap, ◌∙◌, subst, length}
+use Rattle.std.proofs.Common.{Option, Some, sym, ap, ◌∙◌, subst}
 use Rattle.ms_chain.specs.Lines.{LineView}
 use Rattle.ms_chain.specs.declared.split.Split.{Split}
 use Rattle.ms_chain.specs.Splits.{SplitIs, chain_of}

@@ -1,6 +1,5 @@
-use Rattle.std.proofs.Common.{◌≡◌, ℕ, List, Option, None, sym, ap, ◌∙◌, subst, length}
+use Rattle.std.proofs.Common.{None, sym, ap, ◌∙◌, subst, length}
 use Rattle.ms_local.specs.Learning.{ChainView, IsSeen, LacksMajority}
-use Rattle.ms_chain.specs.declared.split.Split.{Split}
 use Rattle.ms_chain.specs.Splits.{BehindIs, SplitIs}
 use Rattle.ms_chain.proofs.Splitting.{neither, none_split, seen_in}
 use Rattle.ms_chain.proofs.chain.Chain.answer.Goals as goal

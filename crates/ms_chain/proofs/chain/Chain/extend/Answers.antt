@@ -1,4 +1,4 @@
-use Rattle.std.proofs.Common.{◌≡◌, ℕ, List, refl, sym, ap, ◌∙◌, subst}
+use Rattle.std.proofs.Common.{refl, sym, ap, ◌∙◌, subst}
 use Rattle.ms_local.specs.Learning.{ChainGrows, ChainView}
 use Rattle.ms_chain.specs.Splits.{IsNextOf}
 use Rattle.ms_chain.proofs.Splitting.{grows_on, grows_self}

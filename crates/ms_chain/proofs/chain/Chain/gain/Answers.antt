@@ -1,4 +1,4 @@
-use Rattle.std.proofs.Common.{◌≡◌, ℕ, List, sym, ap, ◌∙◌, subst, length}
+use Rattle.std.proofs.Common.{sym, ap, ◌∙◌, subst}
 use Rattle.ms_local.specs.Learning.{ChainView}
 use Rattle.ms_chain.specs.declared.split.Next.TheVariants.{Member}
 use Rattle.ms_chain.specs.Lines.{LineView}

@@ -1,4 +1,4 @@
-use Rattle.std.proofs.Common.{◌≡◌, ℕ, ◌+◌, ◌<◌, List, [], ◌∷◌, ◌++◌, Bool, true, false, Ok, Err, refl, sym, ap, ◌∙◌, subst, arith}
+use Rattle.std.proofs.Common.{ℕ, ◌+◌, ◌<◌, refl, sym, ◌∙◌, subst}
 use Rattle.ms_local.specs.Desks.{desk_view}
 use Rattle.ms_chain.specs.Readings.{IsRead, ReadsUpTo}
 use Rattle.ms_chain.proofs.ReadingAll.{HasReadOn, desk_on, failed_below, goes_trans, if_err, none_read, read_badly, read_some, read_well, reads_here}

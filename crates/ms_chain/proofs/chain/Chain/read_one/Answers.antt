@@ -1,11 +1,10 @@
-use Rattle.std.proofs.Common.{◌≡◌, ℕ, ◌<◌, List, Some, None, Ok, true, refl, sym, ap, ◌∙◌, subst, length}
+use Rattle.std.proofs.Common.{ℕ, ◌<◌, List, Ok, true, refl, sym, ap, subst, length}
 use Rattle.std.specs.Prelude.{Option}
-use Rattle.ms_local.specs.declared.deed.Deed.TheVariants.{Listed}
-use Rattle.ms_local.specs.Calls.{DeskCalls, ListsNoted}
+use Rattle.ms_local.specs.Calls.{ListsNoted}
 use Rattle.ms_local.specs.Desks.{DeskView, desk_view, with_deed}
 use Rattle.ms_local.specs.Learning.{ChainView, IsOfDesk}
 use Rattle.ms_ken.specs.Prefixes.{prefix_self}
-use Rattle.ms_chain.specs.Readings.{IsRead, ListsGoOn, ReadsOne, with_texts}
+use Rattle.ms_chain.specs.Readings.{IsRead, ListsGoOn, ReadsOne}
 use Rattle.ms_chain.proofs.ReadingOn.{goes_by}
 use Rattle.ms_chain.proofs.Telling.{breaks_amid, breaks_before, came_from, known_on, knows_more, read_on, reads_one}
 use Rattle.ms_chain.proofs.chain.Chain.read_one.Goals as goal

@@ -1,4 +1,4 @@
-use Rattle.std.proofs.Common.{ℕ, ◌<◌, subst}
+use Rattle.std.proofs.Common.{◌<◌, subst}
 use Rattle.ms_local.specs.Learning.{ChainView}
 use Rattle.ms_chain.proofs.chain.Chain.voters.Goals as goal
 

@@ -4,7 +4,6 @@ use Rattle.ms_record.specs.Records.{IsPosition}
 use Rattle.ms_record.specs.Votes.{position_of}
 use Rattle.ms_replay.specs.Audits.{lists_of}
 use Rattle.ms_chain.specs.HeardInside.{view_of}
-use Rattle.std.proofs.lemmas.List.{length-map}
 use Rattle.ms_chain.proofs.Keeping.{positions_of}
 use Rattle.ms_chain.proofs.heard.Heard.shows_positions.Goals as goal
 

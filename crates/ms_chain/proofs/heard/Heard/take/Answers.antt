@@ -1,4 +1,4 @@
-use Rattle.std.proofs.Common.{◌≡◌, ℕ, ◌+◌, ◌<◌, List, [], ◌∷◌, ◌++◌, Result, refl, sym, ap, ◌∙◌, subst, length, length-append, map, max, slice_set, arith}
+use Rattle.std.proofs.Common.{◌≡◌, ℕ, ◌<◌, List, [], ◌∷◌, ◌++◌, sym, ap, ◌∙◌, subst, length, map, max, slice_set}
 use Rattle.std.specs.Option.{unwrap_or}
 use Rattle.std.proofs.lemmas.List.{length-map}
 use Rattle.ms_record.specs.Reading.{record_at, with_record}
@@ -6,7 +6,7 @@ use Rattle.ms_replay.specs.Audits.{lists_of}
 use Rattle.ms_replay.specs.Tallies.{IsTallyOf, IsVotedAt, TallyView, goes_on}
 use Rattle.ms_chain.specs.Heard.{IsGreatestSeen, heard_more}
 use Rattle.ms_chain.specs.HeardInside.{view_of}
-use Rattle.ms_chain.proofs.Keeping.{KeepsFor, keeps_more, more_seen, on_err, same_seen}
+use Rattle.ms_chain.proofs.Keeping.{keeps_more, more_seen, on_err, same_seen}
 use Rattle.ms_chain.proofs.heard.Heard.take.Goals as goal
 
 pub invariant_of-self : goal.invariant_of-self

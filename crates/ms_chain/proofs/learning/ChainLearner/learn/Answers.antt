@@ -1,4 +1,3 @@
-use Rattle.std.proofs.Common.{◌≡◌, ℕ, List, refl, sym, ap, ◌∙◌, subst}
 use Rattle.ms_local.specs.Desks.{desk_view}
 use Rattle.ms_chain.proofs.Gaining.{all_like, desk_learns, grows_both, grows_lists, known_gained, learns_by, one_told, some_like, some_of}
 use Rattle.ms_chain.proofs.learning.ChainLearner.learn.Goals as goal
@@ -71,7 +70,7 @@ returns-clause-learns g c =
     let new = c.extend.new.self in
     learns_by old new b a c.in_ok-failed.failed c.answer.result c.answer.ensures (all_like old mid new b a c.in_ok-failed.failed c.extend.ensures.lists c.in_ok-failed.ensures.all) c.in_ok-behind.ensures.whole.0
     (λ k first second split setting told.
-        let here = c.tellings_stay.ensures.on b a.pass setting c.recall.ensures.closed c.read_all.ensures.effect.pass told in
-        let agrees = c.told_views.ensures.one_master a.pass.lists setting (record { closed = c.recall.ensures.closed; told = here }) in
-        let known = (known_gained mid new a c.extend.ensures.grows c.extend.ensures.lists c.read_all.ensures.chain).known setting here in
-        one_told new a setting c.one_chain.ensures.front agrees known k first second split)
+    let here = c.tellings_stay.ensures.on b a.pass setting c.recall.ensures.closed c.read_all.ensures.effect.pass told in
+    let agrees = c.told_views.ensures.one_master a.pass.lists setting (record { closed = c.recall.ensures.closed; told = here }) in
+    let known = (known_gained mid new a c.extend.ensures.grows c.extend.ensures.lists c.read_all.ensures.chain).known setting here in
+    one_told new a setting c.one_chain.ensures.front agrees known k first second split)

@@ -1,7 +1,6 @@
-use Rattle.std.proofs.Common.{◌≡◌, ℕ, ◌<◌, ◌≤◌, List, Some, refl, ap, ◌∙◌, sym, subst, length, slice_get, take, arith}
+use Rattle.std.proofs.Common.{◌≡◌, ◌<◌, ◌≤◌, Some, refl, ◌∙◌, sym, subst, length, slice_get, take, arith}
 use Rattle.std.proofs.lemmas.Option.{slice_get_read, slice_get_within}
 use Rattle.ms_record.specs.Chains.{plan_in}
-use Rattle.ms_record.specs.Plans.{PlanView}
 use Rattle.ms_record.specs.Settings.{genesis_plan}
 use Rattle.ms_chain.specs.Lines.{LineView}
 use Rattle.ms_chain.proofs.Lining.{AreBelow, plan_below}

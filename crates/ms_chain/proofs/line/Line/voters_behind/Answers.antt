@@ -1,4 +1,4 @@
-use Rattle.std.proofs.Common.{ℕ, ◌<◌, List, subst, Contains}
+use Rattle.std.proofs.Common.{ℕ, List, subst, Contains}
 use Rattle.ms_chain.proofs.line.Line.voters_behind.Goals as goal
 
 pub returns-clause-below : goal.returns-clause-below
