@@ -236,17 +236,17 @@ looks_wider a b c d h k position round (Looked service sight true ∷ deeds) t =
 )
 looks_wider a b c d h k position round (deed ∷ deeds) t = looks_wider a b c d h k position round deeds t
 
-looks_append : (a d : DeskView) (position round : ℕ) (deeds more : List Deed) → TrueLooks a d position round deeds → ((k r : ℕ) → TrueLooks a d k r more) → TrueLooks a d position round (deeds ++ more)
+pub looks_append : (a d : DeskView) (position round : ℕ) (deeds more : List Deed) → TrueLooks a d position round deeds → ((k r : ℕ) → TrueLooks a d k r more) → TrueLooks a d position round (deeds ++ more)
 looks_append a d position round [] more t u = u position round
 looks_append a d position round (KeptDeed next ok ∷ deeds) more t u = (t.0, looks_append a d t.0 next deeds more t.1 u)
 looks_append a d position round (Appended service list (Vote (Prepare p x)) ok ∷ deeds) more t u = (t.0, looks_append a d position round deeds more t.1 u)
 looks_append a d position round (Looked service sight true ∷ deeds) more t u = (t.0, looks_append a d position round deeds more t.1 u)
 looks_append a d position round (deed ∷ deeds) more t u = looks_append a d position round deeds more t u
 
-pub truths_self : (desk now : DeskView) → now.deeds ≡ desk.deeds → TrueDeeds desk now
+unfoldable pub truths_self : (desk now : DeskView) → now.deeds ≡ desk.deeds → TrueDeeds desk now
 truths_self desk now same = record { deeds = []; grows = same ∙ sym (append-nil desk.deeds); each = λ deed h. absurd (omega (arith, h.1)); looks = λ k r. tt }
 
-pub truths_on : (a b c : DeskView) → DeskBids a b → DeskBids b c → TrueDeeds a b → TrueDeeds b c → TrueDeeds a c
+unfoldable pub truths_on : (a b c : DeskView) → DeskBids a b → DeskBids b c → TrueDeeds a b → TrueDeeds b c → TrueDeeds a c
 truths_on a b c h k t u = record {
   deeds = t.deeds ++ u.deeds;
   grows = u.grows ∙ (ap (λ (xs : List Deed). xs ++ u.deeds) t.grows ∙ append_assoc a.deeds t.deeds u.deeds);

@@ -10,3 +10,6 @@ pub mod Stepping
 pub mod Acting
 pub mod OneBid
 pub mod Proposals
+pub mod Settling
+pub mod CatchingUp
+pub mod Freshness

@@ -5,7 +5,7 @@ use Rattle.std.proofs.lemmas.List.Elements.{All-append, All-push}
 use Rattle.std.proofs.lemmas.List.{append-nil}
 use mathlib.Core.List.{IsPrefix}
 use Rattle.ms_base.specs.Counts.{Rose}
-use Rattle.ms_base.specs.Places.{append_cases}
+use Rattle.ms_base.specs.Places.{alone, append_cases}
 use Rattle.ms_base.specs.declared.limits.TheConstants.{LAST_NUMBER, GREATEST_NUMBER}
 use Rattle.ms_base.specs.declared.names.Quantity.TheVariants.{Position, Round}
 use Rattle.ms_base.specs.declared.names.ServiceId.{ServiceId}
@@ -74,10 +74,6 @@ setting_on first now setting desk goes h = record {
 
 -- ---- deeds
 
-only_one : (x y : Rival) (j : ℕ) → slice_get (x ∷ []) j ≡ Some y → (j ≡ 0) × (x ≡ y)
-only_one x y zero e = (refl, let q : x ≡ y = cc in q)
-only_one x y (suc j) e = absurd cc
-
 module _ (who n : ℕ) (intent : Intent) (old : List Deed) (s : Bidding) where
   wider : (now new : List Deed) → IsPrefix now new → (number : ℕ) (service : ServiceId) (top : Ballot) → WasOutbid who n intent old now s number service top → WasOutbid who n intent old new s number service top
   wider now new more number service top h = record {
@@ -101,7 +97,7 @@ module _ (who n : ℕ) (intent : Intent) (old : List Deed) (s : Bidding) where
   one_rival_more now rivals last h w number r at = elim (append_cases rivals (last ∷ []) number r at) [
     | inl was ↦ h number r was
     | inr x ↦ (
-        let o = only_one last r x.0 x.2 in
+        let o = alone last r x.0 x.2 in
         let same : length rivals ≡ number = omega (arith, o.0, x.1) in
         subst (λ (y : Rival). WasOutbid who n intent old now s number y.service y.top) o.1 (subst (λ (k : ℕ). WasOutbid who n intent old now s k last.service last.top) same w)
       )

@@ -4,3 +4,4 @@ pub mod Bidding
 pub mod TrueBids
 pub mod Leaving
 pub mod Proposing
+pub mod Catching

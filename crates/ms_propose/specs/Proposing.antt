@@ -77,10 +77,14 @@ Says old new voters position (Err (refusals.Unlisted service ballot)) = OnTold o
 Says old new voters position answer = Unit {0}
 
 -- the keeper may lack the round of the last bid, or have it where it is not known
-abbrev pub slack_at : Result (Option Decided) Refusal → ℕ
-slack_at (Err (refusals.OutsideFault place)) = 1
-slack_at (Err refusals.NoMemory) = 1
-slack_at answer = 0
+abbrev pub slack_after : Refusal → ℕ
+slack_after (refusals.OutsideFault place) = 1
+slack_after refusals.NoMemory = 1
+slack_after refusal = 0
+
+abbrev pub slack_at : {T : Type 0} → Result T Refusal → ℕ
+slack_at (Ok answer) = 0
+slack_at (Err refusal) = slack_after refusal
 
 -- the answer to the end of a bid that was not outbid
 abbrev pub IsAnswerTo : Outcome → Ballot → Option Entry → Result (Option Decided) Refusal → Type 0

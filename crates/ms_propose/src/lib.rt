@@ -3,6 +3,8 @@
 
 mod acts;
 mod bids;
+mod catching;
 mod proposal;
 
+pub use catching::catch_up;
 pub use proposal::{Decided, propose};

@@ -10,7 +10,7 @@ use Rattle.ms_bid.specs.declared.act.Outcome.TheVariants.{Outbid}
 use Rattle.ms_bid.specs.Bids.{ballot_of_round}
 use Rattle.ms_propose.specs.Bidding.{BidMade, intent_of}
 use Rattle.ms_propose.specs.Leaving.{Bids, slack_of}
-use Rattle.ms_propose.specs.Proposing.{BidsMade, Proposed, slack_at}
+use Rattle.ms_propose.specs.Proposing.{BidsMade, Proposed, slack_after}
 use Rattle.ms_propose.proofs.Composing.{leaves_on, leaves_self}
 use Rattle.ms_propose.proofs.Proposals.{answered, bids_none, contended, halted_there, last_position, last_round, leaves_looser, made_there, mine_of, no_memory, no_room, one_more, outbid_more, rose_back, says_of, seated_on, setting_on, slack_is, unlimited}
 use Rattle.ms_propose.proofs.proposal.propose.Goals as goal
@@ -66,7 +66,7 @@ returns-in-Err-push-clause-leaves g c =
     let first = desk_view g.W.Work.sees g.K.Keeper.sees g.L.Link.sees c.args.desk.now in
     let now = desk_view g.W.Work.sees g.K.Keeper.sees g.L.Link.sees c.loop-bid.desk in
     let new = desk_view g.W.Work.sees g.K.Keeper.sees g.L.Link.sees c.one_bid.new.desk in
-    subst (λ (e : Refusal). Bids (slack_at (Err e)) first new c.args.kept.now c.one_bid.new.kept) (sym c.into.ensures)
+    subst (λ (e : Refusal). Bids (slack_after e) first new c.args.kept.now c.one_bid.new.kept) (sym c.into.ensures)
     (leaves_looser first new c.args.kept.now c.one_bid.new.kept (leaves_on first now new c.args.kept.now c.loop-bid.kept c.one_bid.new.kept 0 0 c.loop-bid.invariant.leaves
     (subst (λ (o : Outcome). Bids (slack_of (Ok o)) now new c.loop-bid.kept c.one_bid.new.kept) c.in-Ok-Outbid.field-0-is c.in-Ok-Outbid.ensures.leaves)))
 
@@ -107,7 +107,7 @@ returns-in-Err-clause-leaves g c =
     let first = desk_view g.W.Work.sees g.K.Keeper.sees g.L.Link.sees c.args.desk.now in
     let now = desk_view g.W.Work.sees g.K.Keeper.sees g.L.Link.sees c.loop-bid.desk in
     let new = desk_view g.W.Work.sees g.K.Keeper.sees g.L.Link.sees c.one_bid.new.desk in
-    subst (λ (e : Refusal). Bids (slack_at (Err e)) first new c.args.kept.now c.one_bid.new.kept) (sym c.into-in-Err.ensures)
+    subst (λ (e : Refusal). Bids (slack_after e) first new c.args.kept.now c.one_bid.new.kept) (sym c.into-in-Err.ensures)
     (leaves_on first now new c.args.kept.now c.loop-bid.kept c.one_bid.new.kept 0 1 c.loop-bid.invariant.leaves c.in-Err.ensures.leaves)
 
 pub loop-bid-preserved : goal.loop-bid-preserved
