@@ -1,6 +1,6 @@
 //! A chain, what it has read of the vote lists, and what it gains by that.
 
-ghost use Rattle.std.specs.Prelude.{◌≡◌, ◌+◌, ◌<◌, ◌≤◌, ◌++◌, ◌∷◌, [], ℕ, Contains, IfNone, IfOk, IfSome, IsTrue, OnOk, OnErr, Some, length, option_copied, replicate, slice_get, take};
+ghost use Rattle.std.specs.Prelude.{◌≡◌, ◌<◌, ◌≤◌, ◌++◌, ◌∷◌, [], ℕ, Contains, IfNone, IfOk, IfSome, OnOk, OnErr, length, option_copied, replicate, slice_get, take};
 ghost use Rattle.ms_base.specs.declared.limits.TheConstants.{LAST_NUMBER};
 ghost use Rattle.ms_chain.specs.Heard.{heard_more};
 ghost use Rattle.ms_chain.specs.Splits.{AnswersOf, BehindIs, IsNextOf};

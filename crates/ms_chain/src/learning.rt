@@ -48,7 +48,6 @@ impl Chain {
         ensures desk { IsDesk (desk_view W.sees K.sees L.sees desk.new) }
         ensures chain { IsOfDesk self.new (desk_view W.sees K.sees L.sees desk.new) }
     {
-        desks_stay();
         tellings_stay();
         views_grow();
         let from = self.count(service);
