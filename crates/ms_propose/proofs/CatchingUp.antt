@@ -1,9 +1,8 @@
 -- Readings of lists and settling bids, one after another.
-use Rattle.std.proofs.Common.{◌≡◌, ℕ, ◌+◌, ◌<◌, ◌≤◌, ◌-◌, ◌⊎◌, Err, true, false, List, [], ◌∷◌, ◌++◌, Option, Some, None, All, inl, inr, refl, sym, ap, ◌∙◌, subst, length, length-append, arith, slice_get}
+use Rattle.std.proofs.Common.{◌≡◌, ℕ, ◌+◌, ◌<◌, ◌≤◌, ◌-◌, ◌⊎◌, Err, true, false, List, [], ◌∷◌, ◌++◌, Option, Some, None, inl, inr, refl, sym, ap, ◌∙◌, subst, length, length-append, arith}
 use Rattle.std.specs.Prelude.{Contains, IfSome}
 use Rattle.std.proofs.lemmas.List.{append-nil}
 use Rattle.std.proofs.lemmas.List.Elements.{All-append, Contains-append_cases}
-use mathlib.Core.List.{IsPrefix}
 use Rattle.ms_base.specs.Places.{contains_at, in_here, in_later}
 use Rattle.ms_base.specs.declared.limits.TheConstants.{GREATEST_NUMBER, LAST_NUMBER}
 use Rattle.ms_record.specs.declared.refusal.Refusal.{Refusal}
@@ -58,7 +57,6 @@ listing_true : (old new : ChainView) (a b : DeskView) (s : ℕ) (deed : Deed) �
 listing_true old new a b s (Listed service list from count true) h = tt
 listing_true old new a b s (Listed service list from count false) h = (h.3.0, subst (HasFault a b) (sym h.0) h.3.2)
 listing_true old new a b s deed h = absurd h
-
 
 listing_step : (who : ℕ) (s : Bidding) (deed : Deed) → IsListing deed → Step who s [] deed s []
 listing_step who s (Listed service list from count ok) h = (refl, tt, refl)

@@ -1,5 +1,5 @@
 -- What was chosen at entry is in the chain.
-use Rattle.std.proofs.Common.{◌≡◌, ℕ, ◌+◌, ◌*◌, ◌<◌, ◌≤◌, ◌==◌, ◌⊎◌, Bool, true, false, List, [], ◌∷◌, ◌++◌, Option, Some, None, inl, inr, refl, sym, ap, ◌∙◌, subst, length, count_by, arith, slice_get, take}
+use Rattle.std.proofs.Common.{◌≡◌, ℕ, ◌+◌, ◌*◌, ◌<◌, ◌≤◌, ◌==◌, ◌⊎◌, Bool, true, false, List, [], ◌∷◌, ◌++◌, Option, Some, None, inl, inr, refl, sym, ap, ◌∙◌, subst, length, count_by, arith, take}
 use Rattle.std.specs.Prelude.{Contains}
 use Rattle.std.specs.List.{list_any}
 use Rattle.std.proofs.Math.Seq.{take-length}
@@ -24,7 +24,7 @@ use Rattle.ms_local.specs.declared.deed.Deed.{Deed}
 use Rattle.ms_local.specs.declared.deed.Deed.TheVariants.{Listed}
 use Rattle.ms_local.specs.declared.learner.Learnt.{Learnt}
 use Rattle.ms_local.specs.Desks.{DeskView, KnowsTold, OnTold}
-use Rattle.ms_local.specs.Learning.{ChainView, HasHalf, IsFailed, IsLearnt, IsOfDesk, IsSeen, LacksMajority, ReadsAll, ReadsEnough, ReadsOn, texts_read, votes_read}
+use Rattle.ms_local.specs.Learning.{ChainView, HasHalf, IsFailed, IsLearnt, IsOfDesk, IsSeen, ReadsAll, ReadsEnough, ReadsOn, texts_read, votes_read}
 use Rattle.ms_propose.specs.Catching.{IsUpToDate}
 use Rattle.ms_propose.specs.Going.{DeskBids}
 use Rattle.ms_propose.proofs.Composing.{bids_self, bids_services}
@@ -74,7 +74,7 @@ next_chosen one front view setting votes members k e tells grows linked h past =
       let is : h.members ≡ members = one view setting tells h.members members there linked all in
       let at : k ≡ length members + 1 = omega (arith, h.at, all) in
       (e, subst (λ (i : ℕ). ChosenBy votes (voters_behind (origin_of setting) members) i e) at (subst (λ (c : List Entry). ChosenBy votes (voters_behind (origin_of setting) c) k e) is h.chosen))
-    )
+      )
 ] where
   there : IsLinked (votes_told view) (origin_of setting) h.members
   there = linked_grows votes (votes_told view) (origin_of setting) h.members grows h.linked
@@ -140,7 +140,7 @@ all_settled one front chain first now end is goes closed of_desk none setting to
           let c = is_chosen_grows (votes_told first.pass.lists) (votes_told now.pass.lists) (origin_of setting) k e (votes_later first now goes) h in
           let f = next_chosen one front now.pass.lists setting (votes_told now.pass.lists) chain.members k e (record { closed = closed; told = goes.told setting told }) (votes_later now now (bids_self now)) linked c (omega (arith, past, is)) in
           none setting (goes.told setting told) f.0 (subst (λ (x : Setting). ChosenBy (votes_told now.pass.lists) (voters_behind (origin_of x) chain.members) (length chain.members + 1) f.0) known.setting_is f.1)
-        )
+          )
       | inr up ↦ up
     ]
 
@@ -158,10 +158,20 @@ up_to_date one front voters old chain first before now learnt early late closed 
           let c = is_chosen_grows (votes_told first.pass.lists) (votes_told before.pass.lists) (origin_of setting) k e (votes_later first before early) h in
           let f = next_chosen one front now.pass.lists setting (votes_told before.pass.lists) chain.members k e tells (votes_later before now late) linked c (omega (arith, past, learns.end)) in
           let below : (s : ℕ) → Contains (voters_behind (origin_of chain.setting) chain.members) s → s < before.services = λ s v.
-              omega (arith, voters now.pass.lists setting chain.members s tells linked (subst (λ (x : Setting). Contains (voters_behind (origin_of x) chain.members) s) (sym known.setting_is) v),
-              ap (λ (x : Setting). x.services) known.setting_is, of_desk.services, bids_services before now late) in
-          omega (arith, low, learns.end, seen_next old chain before now setting learnt.seen f.0 was learns.reads learns.seen below
-          (subst (λ (x : Setting). ChosenBy (votes_told before.pass.lists) (voters_behind (origin_of x) chain.members) (length chain.members + 1) f.0) known.setting_is f.1))
-        )
+          omega (
+            arith,
+            voters now.pass.lists setting chain.members s tells linked (subst (λ (x : Setting). Contains (voters_behind (origin_of x) chain.members) s) (sym known.setting_is) v),
+            ap (λ (x : Setting). x.services) known.setting_is,
+            of_desk.services,
+            bids_services before now late,
+          ) in
+          omega (
+            arith,
+            low,
+            learns.end,
+            seen_next old chain before now setting learnt.seen f.0 was learns.reads learns.seen below
+                (subst (λ (x : Setting). ChosenBy (votes_told before.pass.lists) (voters_behind (origin_of x) chain.members) (length chain.members + 1) f.0) known.setting_is f.1),
+          )
+          )
       | inr up ↦ up
     ]

@@ -1,5 +1,5 @@
 -- Bids one after another.
-use Rattle.std.proofs.Common.{◌≡◌, ◌↔◌, ℕ, zero, suc, ◌+◌, ◌≤◌, ◌<◌, Bool, true, false, List, [], ◌∷◌, ◌++◌, Option, Some, None, Result, Ok, Err, All, inl, inr, refl, sym, ap, ◌∙◌, subst, length, length-append, append_assoc, arith, slice_get}
+use Rattle.std.proofs.Common.{◌≡◌, ◌↔◌, ℕ, ◌+◌, ◌≤◌, ◌<◌, Bool, true, false, List, [], ◌∷◌, ◌++◌, Option, Some, Result, Ok, Err, inl, inr, refl, sym, ap, ◌∙◌, subst, length, length-append, append_assoc, arith}
 use Rattle.std.specs.Prelude.{Contains, IfOk, IfSome, IsTrue}
 use Rattle.std.proofs.lemmas.List.Elements.{All-append, All-push}
 use Rattle.std.proofs.lemmas.List.{append-nil}
@@ -19,24 +19,21 @@ use Rattle.ms_link.specs.Composing.{rose_before}
 use Rattle.ms_record.specs.declared.ballot.Ballot.{Ballot}
 use Rattle.ms_record.specs.declared.entry.Entry.{Entry}
 use Rattle.ms_record.specs.declared.record.Record.TheVariants.{Accept}
-use Rattle.ms_record.specs.declared.refusal.Place.TheVariants.{Keep}
 use Rattle.ms_record.specs.declared.refusal.Refusal.{Refusal}
 use Rattle.ms_record.specs.declared.refusal.Refusal.TheVariants as refusals
 use Rattle.ms_record.specs.declared.refusal.Rival.{Rival}
 use Rattle.ms_record.specs.declared.setting.Setting.{Setting}
 use Rattle.ms_record.specs.Growing.{chosen_grows, votes_grow}
-use Rattle.ms_record.specs.Votes.{ChosenBy}
 use Rattle.ms_local.specs.declared.deed.Deed.{Deed}
 use Rattle.ms_local.specs.declared.kept.Kept.{Kept}
 use Rattle.ms_local.specs.Desks.{DeskView, IsDesk, KnowsTold}
 use Rattle.ms_local.specs.Rules.{Bidding, Did, Intent, IsDecided}
 use Rattle.ms_local.specs.Running.{did_nothing, did_on}
-use Rattle.ms_local.specs.Truths.{IsStateAt}
 use Rattle.ms_propose.specs.declared.proposal.Decided.{Decided}
 use Rattle.ms_propose.specs.Bidding.{BidBroken, BidHalted, BidMade, Ends, EndsAs, WasOutbid, offer_record}
 use Rattle.ms_propose.specs.Going.{DeskBids}
 use Rattle.ms_propose.specs.Leaving.{Bids, IsSettingOf, Shows, slack_of}
-use Rattle.ms_propose.specs.Proposing.{AreFlagged, AreOutbid, BidsMade, EndsUnkept, IsAnswer, IsAnswerTo, Proposed, Says, slack_at}
+use Rattle.ms_propose.specs.Proposing.{AreOutbid, BidsMade, IsAnswer, IsAnswerTo, Proposed, Says, slack_at}
 use Rattle.ms_propose.specs.TrueBids.{IsSeated}
 use Rattle.ms_propose.proofs.Composing.{bids_client, bids_services, told_back}
 use Rattle.ms_propose.proofs.Growing.{seated_more}
@@ -100,7 +97,7 @@ module _ (who n : ℕ) (intent : Intent) (old : List Deed) (s : Bidding) where
         let o = alone last r x.0 x.2 in
         let same : length rivals ≡ number = omega (arith, o.0, x.1) in
         subst (λ (y : Rival). WasOutbid who n intent old now s number y.service y.top) o.1 (subst (λ (k : ℕ). WasOutbid who n intent old now s k last.service last.top) same w)
-      )
+        )
   ]
 
   -- one bid more, behind these deeds

@@ -1,5 +1,5 @@
 -- A chain at a desk, and what settling behind its end leaves.
-use Rattle.std.proofs.Common.{◌≡◌, ℕ, ◌+◌, ◌<◌, Bool, true, false, List, [], ◌∷◌, ◌++◌, Option, Some, None, Result, Ok, Err, inl, inr, refl, sym, ap, ◌∙◌, subst, length, arith}
+use Rattle.std.proofs.Common.{◌≡◌, ℕ, ◌+◌, Bool, true, false, List, [], ◌∷◌, ◌++◌, Option, None, Result, Ok, Err, inr, sym, ap, ◌∙◌, subst, length, arith}
 use mathlib.Core.List.{IsPrefix}
 use Rattle.ms_core.specs.Closing.{logs_grow}
 use Rattle.ms_core.specs.Views.{IsClosed, IsNextMaster, Tells, View, log_in, votes_told}

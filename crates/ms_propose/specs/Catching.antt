@@ -1,5 +1,5 @@
 -- What catching up leaves, and what it answers.
-use Rattle.std.specs.Prelude.{◌≡◌, ◌⊎◌, ℕ, ◌+◌, ◌≤◌, Bool, true, false, List, [], ◌∷◌, ◌++◌, Option, Some, None, Result, Ok, Err, All, Contains, length, slice_get, take}
+use Rattle.std.specs.Prelude.{◌≡◌, ◌⊎◌, ℕ, ◌+◌, ◌≤◌, Bool, true, false, List, [], ◌∷◌, ◌++◌, Some, None, Result, Ok, Err, All, Contains, length}
 use mathlib.Core.List.{IsPrefix}
 use Rattle.ms_core.specs.Views.{votes_told}
 use Rattle.ms_record.specs.declared.entry.Entry.{Entry}

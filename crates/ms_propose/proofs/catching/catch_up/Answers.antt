@@ -1,5 +1,4 @@
-use Rattle.std.proofs.Common.{Bool, Result, ◌≡◌, ◌+◌, ◌<◌, ◌≤◌, ℕ, List, Ok, Err, true, false, inl, inr, refl, sym, ap, ◌∙◌, subst, arith, length}
-use Rattle.ms_base.specs.declared.limits.TheConstants.{LAST_NUMBER}
+use Rattle.std.proofs.Common.{Bool, Result, Ok, Err, true, false, sym, ap, ◌∙◌, subst, length}
 use Rattle.ms_record.specs.declared.item.Item.TheVariants.{Told}
 use Rattle.ms_record.specs.declared.refusal.Refusal.{Refusal}
 use Rattle.ms_record.specs.declared.setting.Setting.{Setting}
@@ -44,10 +43,12 @@ returns-then-known-clause-answer g c =
     let before = desk_view g.W.Work.sees g.K.Keeper.sees g.L.Link.sees c.learn.desk in
     let learnt = desk_view g.W.Work.sees g.K.Keeper.sees g.L.Link.sees c.learn-learnt.new.desk in
     let chain = g.R.Learner.sees c.learn.chain in
-    let known = g.R.Learner.sees c.learn-learnt.new.self in
-    (c.in-Ok.ensures.learns.end, up_to_date c.linked_lists.ensures.one c.one_chain.ensures.front c.linked_lists.ensures.voters chain known first before learnt c.in-Ok.known c.learn.invariant.leaves.effect
-    (learns_go chain known before learnt c.learn-learnt.ensures.effect c.learn-learnt.ensures.reads (λ setting is. c.configuration_stays.ensures.stays before.pass.lists learnt.pass.lists (Told setting) c.recall.ensures.closed c.learn-learnt.ensures.effect.pass.more is))
-    c.recall.ensures.closed c.learn-learnt.ensures.chain c.in-Ok.ensures.learns c.if-known.true)
+    let known = g.R.Learner.sees c.learn-learnt.new.self in (
+      c.in-Ok.ensures.learns.end,
+      up_to_date c.linked_lists.ensures.one c.one_chain.ensures.front c.linked_lists.ensures.voters chain known first before learnt c.in-Ok.known c.learn.invariant.leaves.effect
+          (learns_go chain known before learnt c.learn-learnt.ensures.effect c.learn-learnt.ensures.reads (λ setting is. c.configuration_stays.ensures.stays before.pass.lists learnt.pass.lists (Told setting) c.recall.ensures.closed c.learn-learnt.ensures.effect.pass.more is))
+          c.recall.ensures.closed c.learn-learnt.ensures.chain c.in-Ok.ensures.learns c.if-known.true,
+    )
 
 pub returns-then-known-clause-grows : goal.returns-then-known-clause-grows
 returns-then-known-clause-grows g c =
@@ -84,7 +85,7 @@ learn-smaller g c =
     let known = g.R.Learner.sees c.learn-learnt.new.self in
     let last = g.R.Learner.sees c.settle.new.chain in
     let settles : Settles (desk_view g.W.Work.sees g.K.Keeper.sees g.L.Link.sees c.learn-learnt.new.desk) (desk_view g.W.Work.sees g.K.Keeper.sees g.L.Link.sees c.settle.new.desk) c.learn.kept c.settle.new.kept.round known last (Ok true) =
-        subst (λ (r : Result Bool Refusal). Settles (desk_view g.W.Work.sees g.K.Keeper.sees g.L.Link.sees c.learn-learnt.new.desk) (desk_view g.W.Work.sees g.K.Keeper.sees g.L.Link.sees c.settle.new.desk) c.learn.kept c.settle.new.kept.round known last r) (c.in-Ok-true.is ∙ ap Ok c.in-Ok-true.field-0-test) c.settle.ensures.settles in
+    subst (λ (r : Result Bool Refusal). Settles (desk_view g.W.Work.sees g.K.Keeper.sees g.L.Link.sees c.learn-learnt.new.desk) (desk_view g.W.Work.sees g.K.Keeper.sees g.L.Link.sees c.settle.new.desk) c.learn.kept c.settle.new.kept.round known last r) (c.in-Ok-true.is ∙ ap Ok c.in-Ok-true.field-0-test) c.settle.ensures.settles in
     shorter_by chain known last c.learn-learnt.ensures.grows settles.0 settles.2 c.settle.ensures.room
 
 pub learn-preserved : goal.learn-preserved
@@ -97,7 +98,7 @@ learn-preserved g c =
     let known = g.R.Learner.sees c.learn-learnt.new.self in
     let last = g.R.Learner.sees c.settle.new.chain in
     let settles : Settles (desk_view g.W.Work.sees g.K.Keeper.sees g.L.Link.sees c.learn-learnt.new.desk) (desk_view g.W.Work.sees g.K.Keeper.sees g.L.Link.sees c.settle.new.desk) c.learn.kept c.settle.new.kept.round known last (Ok true) =
-        subst (λ (r : Result Bool Refusal). Settles (desk_view g.W.Work.sees g.K.Keeper.sees g.L.Link.sees c.learn-learnt.new.desk) (desk_view g.W.Work.sees g.K.Keeper.sees g.L.Link.sees c.settle.new.desk) c.learn.kept c.settle.new.kept.round known last r) (c.in-Ok-true.is ∙ ap Ok c.in-Ok-true.field-0-test) c.settle.ensures.settles in
+    subst (λ (r : Result Bool Refusal). Settles (desk_view g.W.Work.sees g.K.Keeper.sees g.L.Link.sees c.learn-learnt.new.desk) (desk_view g.W.Work.sees g.K.Keeper.sees g.L.Link.sees c.settle.new.desk) c.learn.kept c.settle.new.kept.round known last r) (c.in-Ok-true.is ∙ ap Ok c.in-Ok-true.field-0-test) c.settle.ensures.settles in
     let told : (setting : Setting) → KnowsTold before setting → KnowsTold learnt setting = λ setting is. c.configuration_stays.ensures.stays before.pass.lists learnt.pass.lists (Told setting) c.recall.ensures.closed c.learn-learnt.ensures.effect.pass.more is in
     let caught = learnt_on chain known first before learnt c.learn-learnt.ensures.effect c.learn-learnt.ensures.reads told c.args.kept.now c.learn.kept c.learn.invariant.desk c.learn.invariant.leaves in
     let grown = chain_on (g.R.Learner.sees c.args.chain.now) chain known c.learn.invariant.grows (chain_learns chain known c.learn-learnt.ensures.grows) in
@@ -118,11 +119,12 @@ returns-in-Ok-false-clause-answer g c =
     let known = g.R.Learner.sees c.learn-learnt.new.self in
     let last = g.R.Learner.sees c.settle.new.chain in
     let settles : Settles (desk_view g.W.Work.sees g.K.Keeper.sees g.L.Link.sees c.learn-learnt.new.desk) (desk_view g.W.Work.sees g.K.Keeper.sees g.L.Link.sees c.settle.new.desk) c.learn.kept c.settle.new.kept.round known last (Ok false) =
-        subst (λ (r : Result Bool Refusal). Settles (desk_view g.W.Work.sees g.K.Keeper.sees g.L.Link.sees c.learn-learnt.new.desk) (desk_view g.W.Work.sees g.K.Keeper.sees g.L.Link.sees c.settle.new.desk) c.learn.kept c.settle.new.kept.round known last r) (c.in-Ok-false.is ∙ ap Ok c.in-Ok-false.field-0-test) c.settle.ensures.settles in
+    subst (λ (r : Result Bool Refusal). Settles (desk_view g.W.Work.sees g.K.Keeper.sees g.L.Link.sees c.learn-learnt.new.desk) (desk_view g.W.Work.sees g.K.Keeper.sees g.L.Link.sees c.settle.new.desk) c.learn.kept c.settle.new.kept.round known last r) (c.in-Ok-false.is ∙ ap Ok c.in-Ok-false.field-0-test) c.settle.ensures.settles in
     let told : (setting : Setting) → KnowsTold before setting → KnowsTold learnt setting = λ setting is. c.configuration_stays.ensures.stays before.pass.lists learnt.pass.lists (Told setting) c.recall.ensures.closed c.learn-learnt.ensures.effect.pass.more is in
-    let caught = learnt_on chain known first before learnt c.learn-learnt.ensures.effect c.learn-learnt.ensures.reads told c.args.kept.now c.learn.kept c.learn.invariant.desk c.learn.invariant.leaves in
-    (c.in-Ok.ensures.learns.end ∙ sym (ap (λ (x : ChainView). length x.members) settles.0),
-    all_settled c.linked_lists.ensures.one c.one_chain.ensures.front known first learnt c.in-Ok.known.end c.in-Ok.ensures.learns.end caught.effect c.recall.ensures.closed c.learn-learnt.ensures.chain settles.1)
+    let caught = learnt_on chain known first before learnt c.learn-learnt.ensures.effect c.learn-learnt.ensures.reads told c.args.kept.now c.learn.kept c.learn.invariant.desk c.learn.invariant.leaves in (
+      c.in-Ok.ensures.learns.end ∙ sym (ap (λ (x : ChainView). length x.members) settles.0),
+      all_settled c.linked_lists.ensures.one c.one_chain.ensures.front known first learnt c.in-Ok.known.end c.in-Ok.ensures.learns.end caught.effect c.recall.ensures.closed c.learn-learnt.ensures.chain settles.1,
+    )
 
 pub returns-in-Ok-false-clause-grows : goal.returns-in-Ok-false-clause-grows
 returns-in-Ok-false-clause-grows g c =
@@ -130,7 +132,7 @@ returns-in-Ok-false-clause-grows g c =
     let known = g.R.Learner.sees c.learn-learnt.new.self in
     let last = g.R.Learner.sees c.settle.new.chain in
     let settles : Settles (desk_view g.W.Work.sees g.K.Keeper.sees g.L.Link.sees c.learn-learnt.new.desk) (desk_view g.W.Work.sees g.K.Keeper.sees g.L.Link.sees c.settle.new.desk) c.learn.kept c.settle.new.kept.round known last (Ok false) =
-        subst (λ (r : Result Bool Refusal). Settles (desk_view g.W.Work.sees g.K.Keeper.sees g.L.Link.sees c.learn-learnt.new.desk) (desk_view g.W.Work.sees g.K.Keeper.sees g.L.Link.sees c.settle.new.desk) c.learn.kept c.settle.new.kept.round known last r) (c.in-Ok-false.is ∙ ap Ok c.in-Ok-false.field-0-test) c.settle.ensures.settles in
+    subst (λ (r : Result Bool Refusal). Settles (desk_view g.W.Work.sees g.K.Keeper.sees g.L.Link.sees c.learn-learnt.new.desk) (desk_view g.W.Work.sees g.K.Keeper.sees g.L.Link.sees c.settle.new.desk) c.learn.kept c.settle.new.kept.round known last r) (c.in-Ok-false.is ∙ ap Ok c.in-Ok-false.field-0-test) c.settle.ensures.settles in
     let grown = chain_on (g.R.Learner.sees c.args.chain.now) chain known c.learn.invariant.grows (chain_learns chain known c.learn-learnt.ensures.grows) in
     chain_on (g.R.Learner.sees c.args.chain.now) known last grown (chain_stays known last settles.0)
 
@@ -156,7 +158,7 @@ returns-in-Err-settle-clause-answer g c =
     let known = g.R.Learner.sees c.learn-learnt.new.self in
     let last = g.R.Learner.sees c.settle.new.chain in
     let settles : Settles (desk_view g.W.Work.sees g.K.Keeper.sees g.L.Link.sees c.learn-learnt.new.desk) (desk_view g.W.Work.sees g.K.Keeper.sees g.L.Link.sees c.settle.new.desk) c.learn.kept c.settle.new.kept.round known last (Err c.in-Err-settle.refusal) =
-        subst (λ (r : Result Bool Refusal). Settles (desk_view g.W.Work.sees g.K.Keeper.sees g.L.Link.sees c.learn-learnt.new.desk) (desk_view g.W.Work.sees g.K.Keeper.sees g.L.Link.sees c.settle.new.desk) c.learn.kept c.settle.new.kept.round known last r) (c.in-Err-settle.is) c.settle.ensures.settles in
+    subst (λ (r : Result Bool Refusal). Settles (desk_view g.W.Work.sees g.K.Keeper.sees g.L.Link.sees c.learn-learnt.new.desk) (desk_view g.W.Work.sees g.K.Keeper.sees g.L.Link.sees c.settle.new.desk) c.learn.kept c.settle.new.kept.round known last r) (c.in-Err-settle.is) c.settle.ensures.settles in
     let told : (setting : Setting) → KnowsTold before setting → KnowsTold learnt setting = λ setting is. c.configuration_stays.ensures.stays before.pass.lists learnt.pass.lists (Told setting) c.recall.ensures.closed c.learn-learnt.ensures.effect.pass.more is in
     let caught = learnt_on chain known first before learnt c.learn-learnt.ensures.effect c.learn-learnt.ensures.reads told c.args.kept.now c.learn.kept c.learn.invariant.desk c.learn.invariant.leaves in
     let grown = chain_on (g.R.Learner.sees c.args.chain.now) chain known c.learn.invariant.grows (chain_learns chain known c.learn-learnt.ensures.grows) in
@@ -168,7 +170,7 @@ returns-in-Err-settle-clause-grows g c =
     let known = g.R.Learner.sees c.learn-learnt.new.self in
     let last = g.R.Learner.sees c.settle.new.chain in
     let settles : Settles (desk_view g.W.Work.sees g.K.Keeper.sees g.L.Link.sees c.learn-learnt.new.desk) (desk_view g.W.Work.sees g.K.Keeper.sees g.L.Link.sees c.settle.new.desk) c.learn.kept c.settle.new.kept.round known last (Err c.in-Err-settle.refusal) =
-        subst (λ (r : Result Bool Refusal). Settles (desk_view g.W.Work.sees g.K.Keeper.sees g.L.Link.sees c.learn-learnt.new.desk) (desk_view g.W.Work.sees g.K.Keeper.sees g.L.Link.sees c.settle.new.desk) c.learn.kept c.settle.new.kept.round known last r) (c.in-Err-settle.is) c.settle.ensures.settles in
+    subst (λ (r : Result Bool Refusal). Settles (desk_view g.W.Work.sees g.K.Keeper.sees g.L.Link.sees c.learn-learnt.new.desk) (desk_view g.W.Work.sees g.K.Keeper.sees g.L.Link.sees c.settle.new.desk) c.learn.kept c.settle.new.kept.round known last r) (c.in-Err-settle.is) c.settle.ensures.settles in
     let grown = chain_on (g.R.Learner.sees c.args.chain.now) chain known c.learn.invariant.grows (chain_learns chain known c.learn-learnt.ensures.grows) in
     chain_on (g.R.Learner.sees c.args.chain.now) known last grown (chain_stays known last settles.0)
 

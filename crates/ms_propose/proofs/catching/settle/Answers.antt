@@ -1,10 +1,9 @@
-use Rattle.std.proofs.Common.{◌≡◌, ◌<◌, ◌+◌, ℕ, Option, Some, None, Result, Ok, Err, inl, inr, refl, sym, ap, ◌∙◌, subst, length, arith}
+use Rattle.std.proofs.Common.{◌+◌, ℕ, Option, Result, Ok, Err, inr, refl, sym, ap, ◌∙◌, subst, arith}
 use Rattle.ms_record.specs.declared.refusal.Refusal.{Refusal}
-use Rattle.ms_local.specs.declared.kept.Kept.{Kept}
-use Rattle.ms_local.specs.Desks.{DeskView, desk_view}
+use Rattle.ms_local.specs.Desks.{desk_view}
 use Rattle.ms_local.specs.Learning.{ChainView, IsOfDesk}
 use Rattle.ms_propose.specs.declared.proposal.Decided.{Decided}
-use Rattle.ms_propose.specs.Catching.{Catches, Settles}
+use Rattle.ms_propose.specs.Catching.{Catches}
 use Rattle.ms_propose.specs.Leaving.{Bids}
 use Rattle.ms_propose.specs.Proposing.{Says, slack_after, slack_at}
 use Rattle.ms_propose.proofs.Settling.{added, added_of_desk, catches_looser, of_desk_on, said_none, said_some, settled_leaves, unsettled}
@@ -85,9 +84,11 @@ pub returns-in-Err-clause-settles : goal.returns-in-Err-clause-settles
 returns-in-Err-clause-settles g c =
     let old = desk_view g.W.Work.sees g.K.Keeper.sees g.L.Link.sees c.args.desk.now in
     let new = desk_view g.W.Work.sees g.K.Keeper.sees g.L.Link.sees c.propose.new.desk in
-    let chain = g.R.Learner.sees c.args.chain.now in
-    (refl, inr (unsettled old new chain c.voters-voters.result (c.end-position.result + 1) c.voters-voters.ensures.are (ap (λ (k : ℕ). k + 1) c.end-position.ensures)
-    c.args.kept.now c.propose.new.kept.round c.in-Err.refusal c.in-Err.ensures.deeds))
+    let chain = g.R.Learner.sees c.args.chain.now in (
+      refl,
+      inr (unsettled old new chain c.voters-voters.result (c.end-position.result + 1) c.voters-voters.ensures.are (ap (λ (k : ℕ). k + 1) c.end-position.ensures)
+          c.args.kept.now c.propose.new.kept.round c.in-Err.refusal c.in-Err.ensures.deeds),
+    )
 
 pub returns-in-Err-clause-leaves : goal.returns-in-Err-clause-leaves
 returns-in-Err-clause-leaves g c =

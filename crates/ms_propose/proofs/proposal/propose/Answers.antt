@@ -1,9 +1,8 @@
-use Rattle.std.proofs.Common.{◌≡◌, ◌<◌, ◌+◌, Ok, Err, refl, sym, ap, ◌∙◌, subst, length, length-append, arith, []}
+use Rattle.std.proofs.Common.{◌≡◌, ◌+◌, Ok, Err, refl, sym, ap, ◌∙◌, subst, length, length-append, arith}
 use Rattle.ms_record.specs.declared.refusal.Refusal.{Refusal}
-use Rattle.ms_record.specs.declared.refusal.Refusal.TheVariants as refusals
 use Rattle.ms_record.specs.declared.refusal.Rival.{Rival}
 use Rattle.std.proofs.Common.{List, ℕ}
-use Rattle.ms_local.specs.Desks.{DeskView, desk_view}
+use Rattle.ms_local.specs.Desks.{desk_view}
 use Rattle.ms_local.specs.Rules.{Bidding}
 use Rattle.ms_bid.specs.declared.act.Outcome.{Outcome}
 use Rattle.ms_bid.specs.declared.act.Outcome.TheVariants.{Outbid}
@@ -119,7 +118,7 @@ loop-bid-preserved g c =
     let ballot = ballot_of_round (c.loop-bid.kept.round + 1) c.loop-bid.desk.client in
     let outbid = Outbid c.in-Ok-Outbid.service c.in-Ok-Outbid.top in
     let made = made_there first now ballot intent now.deeds new.deeds c.loop-bid.kept.round c.one_bid.new.kept.round outbid c.loop-bid.invariant.leaves.effect
-        (subst (λ (o : Outcome). (x : Bidding) → x.top ≡ c.loop-bid.kept.round → length x.failed ≡ now.services → BidMade now.client now.services ballot intent now.deeds new.deeds x c.one_bid.new.kept.round o) c.in-Ok-Outbid.field-0-is c.in-Ok-Outbid.ensures.made) in
+    (subst (λ (o : Outcome). (x : Bidding) → x.top ≡ c.loop-bid.kept.round → length x.failed ≡ now.services → BidMade now.client now.services ballot intent now.deeds new.deeds x c.one_bid.new.kept.round o) c.in-Ok-Outbid.field-0-is c.in-Ok-Outbid.ensures.made) in
     let pushed = c.in_default.ensures.ok in
     record {
       desk = c.in-Ok-Outbid.ensures.desk;

@@ -1,5 +1,5 @@
 use Rattle.std.proofs.Common.{◌≡◌, length}
-use Rattle.ms_local.specs.Desks.{DeskView, IsDesk, desk_view}
+use Rattle.ms_local.specs.Desks.{IsDesk, desk_view}
 use Rattle.ms_local.specs.Rules.{Bidding}
 use Rattle.ms_propose.specs.Bidding.{intent_of}
 use Rattle.ms_propose.specs.Leaving.{Bids}
