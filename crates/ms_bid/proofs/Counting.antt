@@ -1,5 +1,5 @@
 -- Of the voters, those that failed and those that show what is sought.
-use Rattle.std.proofs.Common.{◌≡◌, ℕ, zero, suc, ◌+◌, ◌≤◌, Bool, true, false, cond, List, [], ◌∷◌, refl, length, count_by, arith}
+use Rattle.std.proofs.Common.{◌≡◌, ℕ, ◌+◌, ◌≤◌, Bool, true, false, cond, List, [], ◌∷◌, refl, length, count_by, arith}
 use Rattle.std.specs.Prelude.{Contains}
 use Rattle.ms_base.specs.CountLaws.{count_cons}
 use Rattle.ms_base.specs.Places.{in_here, in_later}

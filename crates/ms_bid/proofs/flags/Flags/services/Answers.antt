@@ -1,4 +1,4 @@
-use Rattle.std.proofs.Common.{◌≡◌, ℕ, ◌+◌, ◌<◌, List, false, true, length, sym, ◌∙◌, subst, refl, ap, arith}
+use Rattle.std.proofs.Common.{ℕ, ◌+◌, List, length, sym, ◌∙◌, subst, ap, arith}
 use Rattle.ms_bid.proofs.Flagging.{AreUpTo, all_up, one_down, one_up}
 use Rattle.ms_bid.proofs.flags.Flags.services.Goals as goal
 use Rattle.ms_bid.proofs.flags.Flags.services.Goals.{then-has, else-has}
