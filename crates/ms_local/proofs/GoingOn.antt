@@ -220,6 +220,9 @@ stays_self desk setting known = known
 pub truths_self : (desk : DeskView) → TrueDeeds desk desk
 truths_self desk = record { deeds = []; grows = sym (append-nil desk.deeds); each = λ deed h. absurd (omega (arith, h.1)); looks = λ k r. tt }
 
+pub truths_quiet : (a b : DeskView) → b.deeds ≡ a.deeds ++ [] → TrueDeeds a b
+truths_quiet a b same = record { deeds = []; grows = same; each = λ deed h. absurd (omega (arith, h.1)); looks = λ k r. tt }
+
 only_one : (x y : Deed) → Contains (x ∷ []) y → x ≡ y
 only_one x y (zero, _, is) = is
 only_one x y (suc k, lt, is) = absurd (omega (arith, lt))

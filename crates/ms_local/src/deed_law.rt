@@ -72,6 +72,7 @@ pub fn desks_go_on()
 /// The deeds of a desk that goes on are true, and its own list is told by them.
 pub fn truths_go_on()
     ensures nothing { (desk : DeskView) → TrueDeeds desk desk }
+    ensures quiet { (old new : DeskView) → new.deeds ≡ old.deeds ++ [] → TrueDeeds old new }
     ensures on { (old mid new : DeskView) → DeskGoes old mid → StaysTold old mid → DeskGoes mid new → TrueDeeds old mid → TrueDeeds mid new → TrueDeeds old new }
     ensures noted { (old new : DeskView) (deed : Deed) → new.deeds ≡ old.deeds ++ deed ∷ [] → IsTrueDeed old new deed
         → ((position round : ℕ) → TrueLooks old new position round (deed ∷ [])) → TrueDeeds old new }
