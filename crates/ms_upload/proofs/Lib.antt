@@ -1,0 +1,6 @@
+mod Deeds
+mod Visiting
+mod Counting
+mod Following
+mod Storing
+mod Enough

@@ -1,0 +1,11 @@
+//! Placing objects: each is put on as many services as its plan has replicas, in the order of the mapping.
+#![tactic(auto)]
+
+mod going;
+mod placing;
+mod store;
+mod tally;
+mod visit;
+
+pub use store::{Placed, Unplaced, place};
+pub use visit::Met;
