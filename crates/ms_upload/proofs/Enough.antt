@@ -1,9 +1,11 @@
 -- What is placed is on enough services.
-use Rattle.std.proofs.Common.{◌≡◌, ℕ, ◌+◌, ◌≤◌, ◌==◌, ◌&&◌, ◌||◌, ◌⊎◌, inl, inr, Bool, true, false, List, [], ◌∷◌, Option, Result, Ok, Err, refl, sym, ap, ◌∙◌, subst, length, map, take, cond, count_by, sum_by, arith}
+use Rattle.std.proofs.Common.{◌≡◌, ℕ, ◌+◌, ◌<◌, ◌≤◌, ◌==◌, ◌&&◌, ◌||◌, ◌⊎◌, inl, inr, Bool, true, false, not, List, [], ◌∷◌, Option, None, Result, Ok, Err, refl, sym, ap, ◌∙◌, subst, length, map, take, cond, count_by, sum_by, arith}
 use Rattle.std.specs.Prelude.{Contains, IfOk, IsSome, ◌↔◌}
 use Rattle.std.specs.List.Sorted.{IsPermutation}
 use Rattle.std.proofs.Math.Seq.{take-length}
+use Rattle.std.proofs.lemmas.Bool.{not-true}
 use Rattle.std.proofs.lemmas.Bool.Decides.{nat_tests}
+use Rattle.std.proofs.lemmas.List.{length-map}
 use Rattle.std.proofs.lemmas.List.Elements.{All-contains}
 use Rattle.std.proofs.lemmas.List.Recursion.{is_sum_by}
 use Rattle.std.proofs.lemmas.List.Sorted.{sum_by-IsPermutation}
@@ -17,7 +19,7 @@ use Rattle.ms_core.specs.Views.{log_in}
 use Rattle.ms_local.specs.Desks.{DeskView, OnTold, KnowsTold}
 use Rattle.ms_local.specs.Truths.{Stores}
 use Rattle.ms_object.specs.Stores.{StoreView, names_in, text_of}
-use Rattle.ms_plan.specs.Mapping.{order_of, services_of}
+use Rattle.ms_plan.specs.Mapping.{order_of, places_of, services_of}
 use Rattle.ms_record.specs.declared.plan.PlanRow.{PlanRow}
 use Rattle.ms_record.specs.declared.setting.Setting.{Setting}
 use Rattle.ms_record.specs.Logs.{HasPut}
@@ -26,9 +28,9 @@ use Rattle.ms_upload.specs.declared.store.Placed.{Placed}
 use Rattle.ms_upload.specs.declared.store.Unplaced.{Unplaced}
 use Rattle.ms_upload.specs.declared.visit.Met.{Met}
 use Rattle.ms_upload.specs.declared.visit.Met.TheVariants.{Present, Taken, AskFailed, PutFailed, AskStale, PutStale}
-use Rattle.ms_upload.specs.Jobs.{IsDone}
+use Rattle.ms_upload.specs.Jobs.{AreFresh, Follows, IsDone, LacksPlaces}
 use Rattle.ms_upload.specs.Placings.{AreOnEnough, Goes, Places}
-use Rattle.ms_upload.specs.Visits.{Job, MetAt, Visit, accepted, accepts, counts_present, counts_put, did_accept}
+use Rattle.ms_upload.specs.Visits.{Job, MetAt, Visit, accepted, accepts, counts_present, counts_put, did_accept, did_fail, fails, floor_in}
 
 -- ---- tests
 
@@ -49,6 +51,14 @@ same_test s k e = grind (arith, nat_tests)
 or_true : (b : Bool) → (b || true) ≡ true
 or_true true = refl
 or_true false = refl
+
+or_none : (a b : Bool) → (a || b) ≡ false → (a ≡ false) × (b ≡ false)
+or_none true b e = absurd (cc e)
+or_none false b e = (refl, e)
+
+and_false : (a b : Bool) → b ≡ true → (a && b) ≡ false → a ≡ false
+and_false true b is e = absurd (let q : true ≡ false = sym is ∙ e in cc)
+and_false false b is e = refl
 
 -- ---- who accepted
 
@@ -164,3 +174,73 @@ all_placed plan objects old new version (Ok placed) there holds enough = λ sett
   put = λ name text is. enough setting known name ((there name).1 (subst (λ (o : Option (List ℕ)). IsSome o) (sym is) refl));
 }
 all_placed plan objects old new version (Err error) there holds enough = λ setting known. tt
+
+count_all : {X : Type 0} (xs : List X) → count_by (λ x. true) xs ≡ length xs
+count_all [] = refl
+count_all (x ∷ xs) = omega (arith, count_cons (λ y. true) x xs, count_all xs)
+
+permuted_length : (plan : PlanView) (name : Name) → IsPermutation (services_of plan) (order_of plan name) → length (order_of plan name) ≡ length plan.rows
+permuted_length plan name same =
+    sym (count_all (order_of plan name)) ∙ (count_same (λ (s : ServiceId). true) (services_of plan) (order_of plan name) same ∙ (count_all (services_of plan) ∙ length-map plan.rows (λ (row : PlanRow). row.service)))
+
+-- ---- without a fault, and with too few services
+
+did_none : (v : Visit) (visits : List Visit) (s : ℕ) → did_fail (v ∷ visits) s ≡ false → ((fails v.met && v.service.0 == s) ≡ false) × (did_fail visits s ≡ false)
+did_none v visits s e = or_none (fails v.met && v.service.0 == s) (did_fail visits s) e
+
+one_unless : (met : Met) → fails met ≡ false → floor_in met ≡ None → counts_present met + counts_put met ≡ 1
+one_unless Present e n = omega arith
+one_unless Taken e n = omega arith
+one_unless AskFailed e n = absurd (cc e)
+one_unless PutFailed e n = absurd (cc e)
+one_unless (AskStale floor) e n = absurd (cc n)
+one_unless (PutStale floor) e n = absurd (cc n)
+
+own_fails : (v : Visit) → (fails v.met && v.service.0 == v.service.0) ≡ false → fails v.met ≡ false
+own_fails v e = and_false (fails v.met) (v.service.0 == v.service.0) (same_test v.service.0 v.service.0 refl) e
+
+all_accepted : (visits : List Visit) → ((v : Visit) → Contains visits v → fails v.met ≡ false) → ((v : Visit) → Contains visits v → floor_in v.met ≡ None) → accepted visits ≡ length visits
+all_accepted [] h fresh = omega arith
+all_accepted (v ∷ visits) h fresh =
+    omega (arith, one_unless v.met (h v (in_here v visits)) (fresh v (in_here v visits)), all_accepted visits (λ w there. h w (in_later v visits w there)) (λ w there. fresh w (in_later v visits w there)))
+
+not_failing : (visits : List Visit) (v : Visit) → Contains visits v → did_fail visits v.service.0 ≡ false → fails v.met ≡ false
+not_failing [] v there e = absurd (in_none v there)
+not_failing (w ∷ visits) v there e = elim (in_cases w visits v there) [
+  | inl same ↦ own_fails v (subst (λ (x : Visit). (fails x.met && x.service.0 == v.service.0) ≡ false) same (did_none w visits v.service.0 e).0)
+  | inr later ↦ not_failing visits v later (did_none w visits v.service.0 e).1
+]
+
+pub exact_places : (plan : PlanView) (job : Job) → Follows plan job → IsDone plan job → AreFresh job.visits → ((s : ℕ) → did_fail job.visits s ≡ false) → map (λ (v : Visit). v.service) job.visits ≡ places_of plan job.name
+exact_places plan job h done fresh none =
+    let many : length job.visits ≡ plan.replicas = omega (arith, done, all_accepted job.visits (λ v there. not_failing job.visits v there (none v.service.0)) fresh) in
+    h.order ∙ ap (λ (n : ℕ). take n (order_of plan job.name)) many
+
+counts_unless : (met : Met) (b : Bool) → (b ≡ true → fails met ≡ false) → floor_in met ≡ None → cond b 1 0 ≤ counts_present met + counts_put met
+counts_unless met true h none = omega (arith, one_unless met (h refl) none)
+counts_unless met false h none = omega arith
+
+others_accepted : (part : ℕ → Bool) (visits : List Visit) → ((v : Visit) → Contains visits v → part v.service.0 ≡ true → fails v.met ≡ false) → ((v : Visit) → Contains visits v → floor_in v.met ≡ None)
+    → count_by (λ (s : ServiceId). part s.0) (map (λ (v : Visit). v.service) visits) ≤ accepted visits
+others_accepted part [] h fresh = omega arith
+others_accepted part (v ∷ visits) h fresh =
+    omega (
+      arith,
+      count_cons (λ (s : ServiceId). part s.0) v.service (map (λ (w : Visit). w.service) visits),
+      counts_unless v.met (part v.service.0) (h v (in_here v visits)) (fresh v (in_here v visits)),
+      others_accepted part visits (λ w there. h w (in_later v visits w there)) (λ w there. fresh w (in_later v visits w there)),
+    )
+
+pub few_others : (plan : PlanView) (job : Job) (failed : List ℕ) → IsPermutation (services_of plan) (order_of plan job.name) → Follows plan job → LacksPlaces plan job failed
+    → count_by (λ (row : PlanRow). not (did_fail job.visits row.service.0)) plan.rows < plan.replicas
+few_others plan job failed same h lacks =
+    let part : ℕ → Bool = λ s. not (did_fail job.visits s) in
+    let wide : length (order_of plan job.name) ≡ length job.visits = permuted_length plan job.name same ∙ sym lacks.all in
+    let visited : map (λ (v : Visit). v.service) job.visits ≡ order_of plan job.name = h.order ∙ (ap (λ (n : ℕ). take n (order_of plan job.name)) (sym wide) ∙ take-length (order_of plan job.name)) in
+    omega (
+      arith,
+      count_rows plan job.name part same,
+      ap (count_by (λ (s : ServiceId). part s.0)) visited,
+      others_accepted part job.visits (λ v there e. not_failing job.visits v there (not-true (did_fail job.visits v.service.0) e)) lacks.fresh,
+      lacks.few,
+    )

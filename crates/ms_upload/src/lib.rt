@@ -2,10 +2,12 @@
 #![tactic(auto)]
 
 mod going;
+mod law;
 mod placing;
 mod store;
 mod tally;
 mod visit;
 
+pub use law::placings;
 pub use store::{Placed, Unplaced, place};
 pub use visit::Met;
