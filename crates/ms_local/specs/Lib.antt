@@ -3,6 +3,7 @@ pub mod Outside
 pub mod Memory
 pub mod Keeping
 pub mod Rules
+pub mod Placing
 pub mod Desks
 pub mod Calls
 pub mod ObjectCalls

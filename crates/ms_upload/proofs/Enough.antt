@@ -62,14 +62,14 @@ and_false false b is e = refl
 
 -- ---- who accepted
 
-accepted_by : (visits : List Visit) (s : ℕ) → did_accept visits s ≡ true → (v : Visit) × Contains visits v × (accepts v.met ≡ true) × (v.service.0 ≡ s)
+pub accepted_by : (visits : List Visit) (s : ℕ) → did_accept visits s ≡ true → (v : Visit) × Contains visits v × (accepts v.met ≡ true) × (v.service.0 ≡ s)
 accepted_by [] s e = absurd (cc e)
 accepted_by (v ∷ visits) s e = elim (or_cases (accepts v.met && v.service.0 == s) (did_accept visits s) e) [
   | inl here ↦ (let p = both_true (accepts v.met) (v.service.0 == s) here in (v, in_here v visits, p.0, test_same v.service.0 s p.1))
   | inr later ↦ (let p = accepted_by visits s later in (p.0, in_later v visits p.0 p.1, p.2, p.3))
 ]
 
-accepted_then : (visits : List Visit) (v : Visit) → Contains visits v → accepts v.met ≡ true → did_accept visits v.service.0 ≡ true
+pub accepted_then : (visits : List Visit) (v : Visit) → Contains visits v → accepts v.met ≡ true → did_accept visits v.service.0 ≡ true
 accepted_then [] v there is = absurd (in_none v there)
 accepted_then (w ∷ visits) v there is = elim (in_cases w visits v there) [
   | inl same ↦
@@ -108,14 +108,14 @@ accepted_count part (v ∷ visits) h =
 count_sum : {X : Type 0} (p : X → Bool) (xs : List X) → count_by p xs ≡ sum_by (λ x. cond (p x) 1 0) xs
 count_sum p xs = is_sum_by (count_by p) (λ x. cond (p x) 1 0) refl (count_cons p) xs
 
-count_map : {X Y : Type 0} (p : Y → Bool) (f : X → Y) (xs : List X) → count_by p (map f xs) ≡ count_by (λ x. p (f x)) xs
+pub count_map : {X Y : Type 0} (p : Y → Bool) (f : X → Y) (xs : List X) → count_by p (map f xs) ≡ count_by (λ x. p (f x)) xs
 count_map p f [] = refl
 count_map p f (x ∷ xs) = omega (arith, count_cons p (f x) (map f xs), count_cons (λ y. p (f y)) x xs, count_map p f xs)
 
 count_front : {X : Type 0} (p : X → Bool) (xs : List X) (n : ℕ) → count_by p (take n xs) ≤ count_by p xs
 count_front p xs n = omega (arith, count_sum p xs, count_sum p (take n xs), sum_by-take-le (λ x. cond (p x) 1 0) xs n)
 
-count_same : {X : Type 0} (p : X → Bool) (xs ys : List X) → IsPermutation xs ys → count_by p ys ≡ count_by p xs
+pub count_same : {X : Type 0} (p : X → Bool) (xs ys : List X) → IsPermutation xs ys → count_by p ys ≡ count_by p xs
 count_same p xs ys same = count_sum p ys ∙ (sum_by-IsPermutation (λ x. cond (p x) 1 0) xs ys same ∙ sym (count_sum p xs))
 
 count_rows : (plan : PlanView) (name : Name) (part : ℕ → Bool) → IsPermutation (services_of plan) (order_of plan name)
@@ -128,6 +128,19 @@ stored old new s generation name Present e is = is
 stored old new s generation name Taken e is = is
 stored old new s generation name met e is = absurd (cc e)
 
+pub job_count : (plan : PlanView) (job : Job) → IsPermutation (services_of plan) (order_of plan job.name) → Follows plan job → IsDone plan job → plan.replicas ≤ count_by (λ (row : PlanRow). did_accept job.visits row.service.0) plan.rows
+job_count plan job same follows done =
+    let front : count_by (λ (s : ServiceId). did_accept job.visits s.0) (map (λ (v : Visit). v.service) job.visits) ≡ count_by (λ (s : ServiceId). did_accept job.visits s.0) (take (length job.visits) (order_of plan job.name)) =
+    ap (count_by (λ (s : ServiceId). did_accept job.visits s.0)) follows.order in
+    omega (
+      arith,
+      done,
+      accepted_count (did_accept job.visits) job.visits (accepted_then job.visits),
+      front,
+      count_front (λ (s : ServiceId). did_accept job.visits s.0) (order_of plan job.name) (length job.visits),
+      count_rows plan job.name (did_accept job.visits) same,
+    )
+
 pub job_enough : (plan : PlanView) (old new : DeskView) (job : Job) (setting : Setting) → IsPermutation (services_of plan) (order_of plan job.name) → Goes plan old new job → IsDone plan job → KnowsTold old setting
     → OnEnough (λ s. HasPut (log_in new.pass.lists s) plan.generation job.name) plan
 job_enough plan old new job setting same goes done known = record {
@@ -136,20 +149,10 @@ job_enough plan old new job setting same goes done known = record {
       let p = accepted_by job.visits s did in
       subst (λ (n : ℕ). HasPut (log_in new.pass.lists n) plan.generation job.name) p.3
       (stored old new p.0.service.0 plan.generation job.name p.0.met p.2 (goes.met p.0 p.1) setting known);
-  enough =
-      let front : count_by (λ (s : ServiceId). did_accept job.visits s.0) (map (λ (v : Visit). v.service) job.visits) ≡ count_by (λ (s : ServiceId). did_accept job.visits s.0) (take (length job.visits) (order_of plan job.name)) =
-      ap (count_by (λ (s : ServiceId). did_accept job.visits s.0)) goes.follows.order in
-      omega (
-        arith,
-        done,
-        accepted_count (did_accept job.visits) job.visits (accepted_then job.visits),
-        front,
-        count_front (λ (s : ServiceId). did_accept job.visits s.0) (order_of plan job.name) (length job.visits),
-        count_rows plan job.name (did_accept job.visits) same,
-      );
+  enough = job_count plan job same goes.follows done;
 }
 
-job_named : (jobs : List Job) (name : Name) → Contains (map (λ (job : Job). job.name) jobs) name → (job : Job) × Contains jobs job × (job.name ≡ name)
+pub job_named : (jobs : List Job) (name : Name) → Contains (map (λ (job : Job). job.name) jobs) name → (job : Job) × Contains jobs job × (job.name ≡ name)
 job_named [] name there = absurd (in_none name there)
 job_named (job ∷ jobs) name there = elim (in_cases job.name (map (λ (j : Job). j.name) jobs) name there) [
   | inl same ↦ (job, in_here job jobs, same)

@@ -4,3 +4,5 @@ mod Counting
 mod Following
 mod Storing
 mod Enough
+mod Obeying
+mod Ruling

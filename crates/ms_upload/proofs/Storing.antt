@@ -50,7 +50,7 @@ stale_true old new s generation name (AskStale other) floor e is = subst (λ (n 
 stale_true old new s generation name (PutStale other) floor e is = subst (λ (n : ℕ). (generation < n) × OnTold old (Contains (log_in new.pass.lists s) (Drop n))) (let q : other ≡ floor = cc e in q) is
 stale_true old new s generation name met floor e is = absurd (cc e)
 
-flat_has : {X Y : Type 0} (f : X → List Y) (xs : List X) (x : X) (y : Y) → Contains xs x → Contains (f x) y → Contains (flat_map f xs) y
+pub flat_has : {X Y : Type 0} (f : X → List Y) (xs : List X) (x : X) (y : Y) → Contains xs x → Contains (f x) y → Contains (flat_map f xs) y
 flat_has f [] x y there is = absurd (in_none x there)
 flat_has f (z ∷ xs) x y there is = elim (in_cases z xs x there) [
   | inl same ↦ Contains-append_left (f z) (flat_map f xs) y (subst (λ w. Contains (f w) y) (sym same) is)
@@ -166,7 +166,7 @@ module _ (plan : PlanView) (objects : StoreView) (old mid : DeskView) (place : �
     places_by result answer = record { jobs = h.jobs ++ v.job ∷ []; cut = cut; names = names_all; goes = goes_all plan old new (h.jobs ++ v.job ∷ []) cut all_next lays_next; lays = lays_next; answer = answer }
 
     pub placed_cut : IsCutBehind plan v.job cut → Places plan objects old new (Err NoMemory)
-    placed_cut is = places_by (Err NoMemory) (inr (first_here, is))
+    placed_cut is = places_by (Err NoMemory) (inr (h.jobs, v.job, refl, is))
 
     pub placed_few : cut ≡ [] → (failed : List ℕ) → LacksPlaces plan v.job failed → Places plan objects old new (Err (TooFew name failed))
     placed_few none failed lacks = places_by (Err (TooFew name failed)) (none, first_here, sym v.name_is, lacks)

@@ -1,6 +1,6 @@
 //! Placing the objects of a store.
 
-ghost use Rattle.std.specs.Prelude.{◌≡◌, ◌≤◌, List, ℕ, Some, IfOk, Contains, length};
+ghost use Rattle.std.specs.Prelude.{◌≡◌, ◌≤◌, [], List, ℕ, Some, IfOk, Contains, length};
 ghost use Rattle.ms_base.specs.declared.limits.TheConstants.{OBJECT_BYTES};
 ghost use Rattle.ms_base.specs.declared.names.Name.{Name};
 ghost use Rattle.ms_core.specs.Placing.{HoldsVersion, IsPlaced};
@@ -9,8 +9,9 @@ ghost use Rattle.ms_object.specs.Stores.{names_in, text_of};
 ghost use Rattle.ms_local.specs.Calls.{DeskGoes};
 ghost use Rattle.ms_local.specs.Desks.{IsDesk, OnTold, desk_view};
 ghost use Rattle.ms_local.specs.Truths.{OwnHistory, TrueDeeds};
+ghost use Rattle.ms_local.specs.Placing.{IsUnder, Placing, Purpose};
 ghost use Rattle.ms_upload.specs.Jobs.{AreBelow, PlacesOne};
-ghost use Rattle.ms_upload.specs.Placings.{AreOnEnough, Places};
+ghost use Rattle.ms_upload.specs.Placings.{AreOnEnough, KeepsPlacing, Places};
 
 use crate::going::desks_lay;
 use crate::placing::{End, place_one};
@@ -56,9 +57,15 @@ pub fn place<W: Work + Drop, K: Keeper + Drop, L: Link<FoldClosed> + Drop, G: Ga
     requires known { AreBelow plan.now desk.old.services }
     requires short { (name text : List ℕ) → text_of objects.now name ≡ Some text → length text ≤ OBJECT_BYTES }
     ensures places { Places plan.now objects.now (desk_view W.sees K.sees L.sees desk.old) (desk_view W.sees K.sees L.sees desk.new) result }
+    ensures effect { DeskGoes (desk_view W.sees K.sees L.sees desk.old) (desk_view W.sees K.sees L.sees desk.new) }
+    ensures truths { TrueDeeds (desk_view W.sees K.sees L.sees desk.old) (desk_view W.sees K.sees L.sees desk.new) }
+    ensures history { OwnHistory (desk_view W.sees K.sees L.sees desk.old) (desk_view W.sees K.sees L.sees desk.new) }
+    ensures desk { IsDesk (desk_view W.sees K.sees L.sees desk.new) }
     ensures enough { OnTold (desk_view W.sees K.sees L.sees desk.old) (IfOk result (λ placed. AreOnEnough plan.now objects.now (desk_view W.sees K.sees L.sees desk.new))) }
     ensures placed { (version : Name) → HoldsVersion plan.now.format (text_of objects.now) version
         → OnTold (desk_view W.sees K.sees L.sees desk.old) (IfOk result (λ placed. IsPlaced (log_in desk.new.pass.lists) plan.now version)) }
+    ensures placing_rule { (s : Placing) (rest : List Purpose) → s.asked ≡ [] → IsUnder s plan.now rest
+        → KeepsPlacing plan.now objects.now (desk_view W.sees K.sees L.sees desk.old) (desk_view W.sees K.sees L.sees desk.new) s rest result }
 {
     objects.shows();
     orders_are_sorted();
