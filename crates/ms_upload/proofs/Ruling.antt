@@ -1,28 +1,92 @@
 -- Placing keeps the rule of placing.
-use Rattle.std.proofs.Common.{◌≡◌, ℕ, inl, inr, List, [], ◌∷◌, ◌++◌, Result, Ok, Err, refl, sym, ap, ◌∙◌, subst, length, map, take}
+use Rattle.std.proofs.Common.{◌≡◌, ◌≢◌, ◌⊎◌, ℕ, inl, inr, true, false, List, [], ◌∷◌, ◌++◌, Some, None, Result, Ok, Err, refl, sym, ap, ◌∙◌, subst, length, map, take}
 use Rattle.std.specs.Prelude.{All, Contains, IfOk}
+use Rattle.std.specs.List.{flat_map}
 use Rattle.std.specs.List.Sorted.{IsPermutation, IsStrictlySortedBy}
 use Rattle.std.proofs.Math.Seq.{take-length}
 use Rattle.std.proofs.lemmas.List.{append-nil}
-use Rattle.std.proofs.lemmas.List.Elements.{All-contains}
-use Rattle.ms_base.specs.Places.{in_none, map_has}
+use Rattle.std.proofs.lemmas.List.Elements.{All-contains, Contains-append_cases}
+use Rattle.ms_base.specs.Places.{in_cases, in_here, in_later, in_none, map_has}
 use Rattle.ms_base.specs.declared.names.Name.{Name}
 use Rattle.ms_core.specs.Placing.{OnEnough}
+use Rattle.ms_base.specs.declared.names.ServiceId.{ServiceId}
 use Rattle.ms_local.specs.declared.deed.Deed.{Deed}
+use Rattle.ms_local.specs.declared.deed.Deed.TheVariants.{Asked, Put}
+use Rattle.ms_local.specs.declared.objects.Miss.TheVariants.{Failed, Stale}
 use Rattle.ms_local.specs.Desks.{DeskView}
-use Rattle.ms_local.specs.Placing.{Asking, HasAccepted, IsUnder, Placing, Purpose}
+use Rattle.ms_local.specs.Placing.{Asking, HasAccepted, IsUnder, Obeys, Placing, PlacesNext, Purpose, asking_of}
 use Rattle.ms_object.specs.Stores.{StoreView, name_cmp, names_in}
 use Rattle.ms_plan.specs.Mapping.{order_of, services_of}
 use Rattle.ms_record.specs.Plans.{IsPlan, PlanView}
 use Rattle.ms_upload.specs.declared.store.Placed.{Placed}
 use Rattle.ms_upload.specs.declared.store.Unplaced.{Unplaced}
 use Rattle.ms_upload.specs.declared.store.Unplaced.TheVariants.{Collected, NoMemory, TooFew}
-use Rattle.ms_upload.specs.Jobs.{Follows, IsDone}
+use Rattle.ms_upload.specs.Jobs.{Follows, IsCutBehind, IsDone}
+use Rattle.ms_upload.specs.Laying.{IsObjectDeed}
+use Rattle.ms_upload.specs.declared.visit.Met.{Met}
+use Rattle.ms_upload.specs.declared.visit.Met.TheVariants.{Present, Taken, AskFailed, PutFailed, AskStale, PutStale}
 use Rattle.ms_upload.specs.Placings.{Goes, KeepsPlacing, Places, jobs_deeds}
-use Rattle.ms_upload.specs.Visits.{Job, did_accept}
+use Rattle.ms_upload.specs.Visits.{Job, asked_deed, did_accept, job_deeds, met_deeds, put_deed, visit_deeds}
 use Rattle.ms_upload.proofs.Enough.{accepted_by, job_count, job_named}
 use Rattle.ms_upload.proofs.Obeying.{AreApart, IsApart, all_rows, cut_obeys, jobs_apart, jobs_obey, row_of, rows_of, sorted_front}
 use Rattle.ms_upload.proofs.Storing.{flat_has}
+
+-- ---- a placing has begun with its first deed
+
+some_none : {X : Type 0} (x : X) → Some x ≡ None → ⊥
+some_none x e = cc e
+
+none_ends : {X : Type 0} (xs : List X) (x : X) → xs ++ x ∷ [] ≡ [] → ⊥
+none_ends [] x e = cc e
+none_ends (y ∷ xs) x e = cc e
+
+one_object : (d deed : Deed) → IsObjectDeed d → Contains (d ∷ []) deed → IsObjectDeed deed
+one_object d deed is there = elim (in_cases d [] deed there) [ inl same ↦ subst IsObjectDeed same is | inr later ↦ absurd (in_none deed later) ]
+
+two_objects : (d e deed : Deed) → IsObjectDeed d → IsObjectDeed e → Contains (d ∷ e ∷ []) deed → IsObjectDeed deed
+two_objects d e deed is also there = elim (in_cases d (e ∷ []) deed there) [ inl same ↦ subst IsObjectDeed same is | inr later ↦ one_object e deed also later ]
+
+met_objects : (s : ServiceId) (generation : ℕ) (name : Name) (met : Met) (deed : Deed) → Contains (met_deeds s generation name met) deed → IsObjectDeed deed
+met_objects s generation name Present deed there = one_object (asked_deed s generation name (Ok true)) deed tt there
+met_objects s generation name AskFailed deed there = one_object (asked_deed s generation name (Err Failed)) deed tt there
+met_objects s generation name (AskStale floor) deed there = one_object (asked_deed s generation name (Err (Stale floor))) deed tt there
+met_objects s generation name Taken deed there = two_objects (asked_deed s generation name (Ok false)) (put_deed s generation name (Ok tt)) deed tt tt there
+met_objects s generation name PutFailed deed there = two_objects (asked_deed s generation name (Ok false)) (put_deed s generation name (Err Failed)) deed tt tt there
+met_objects s generation name (PutStale floor) deed there = two_objects (asked_deed s generation name (Ok false)) (put_deed s generation name (Err (Stale floor))) deed tt tt there
+
+flat_from : {X Y : Type 0} (f : X → List Y) (xs : List X) (y : Y) → Contains (flat_map f xs) y → (x : X) × Contains (f x) y
+flat_from f [] y there = absurd (in_none y there)
+flat_from f (x ∷ xs) y there = elim (Contains-append_cases (f x) (flat_map f xs) y there) [ inl here ↦ (x, here) | inr later ↦ flat_from f xs y later ]
+
+jobs_objects : (generation : ℕ) (jobs : List Job) (deed : Deed) → Contains (jobs_deeds generation jobs) deed → IsObjectDeed deed
+jobs_objects generation jobs deed there =
+    let job = flat_from (job_deeds generation) jobs deed there in
+    let v = flat_from (visit_deeds generation job.0.name) job.0.visits deed job.1 in
+    met_objects v.0.service generation job.0.name v.0.met deed v.1
+
+cut_objects : (plan : PlanView) (job : Job) (cut : List Deed) → IsCutBehind plan job cut → (deed : Deed) → Contains cut deed → IsObjectDeed deed
+cut_objects plan job cut c deed there = elim c.deeds [
+  | inl none ↦ absurd (in_none deed (subst (λ (ds : List Deed). Contains ds deed) none there))
+  | inr one ↦ one_object (asked_deed c.service plan.generation job.name (Ok false)) deed tt (subst (λ (ds : List Deed). Contains ds deed) one there)
+]
+
+-- a plan under which is placed stays
+plan_stays : (s t : Placing) (deeds : List Deed) → ((deed : Deed) → Contains deeds deed → IsObjectDeed deed) → Obeys PlacesNext s deeds t → s.plan ≢ None → t.plan ≢ None
+plan_stays s t [] objects h some = λ none. some (ap (λ (x : Placing). x.plan) (sym h) ∙ none)
+plan_stays s t (Asked service generation name present ok floor ∷ deeds) objects h some =
+    plan_stays h.0 t deeds (λ deed there. objects deed (in_later (Asked service generation name present ok floor) deeds deed there)) h.2 (λ e. some_none h.1.0 (sym (ap (λ (x : Placing). x.plan) h.1.5) ∙ e))
+plan_stays s t (Put service generation name ok floor ∷ deeds) objects h some =
+    plan_stays h.0 t deeds (λ deed there. objects deed (in_later (Put service generation name ok floor) deeds deed there)) h.2 (λ e. some (sym (ap (λ (x : Placing). x.plan) h.1.2) ∙ e))
+plan_stays s t (deed ∷ deeds) objects h some = absurd (objects deed (in_here deed deeds))
+
+begins : (s t : Placing) (plan : PlanView) (rest : List Purpose) (deeds : List Deed) → s.asked ≡ [] → ((deed : Deed) → Contains deeds deed → IsObjectDeed deed) → Obeys PlacesNext s deeds t → IsUnder t plan rest
+    → ((deeds ≡ []) × (t ≡ s)) ⊎ ((t.plan ≡ Some plan) × (t.own ≡ rest))
+begins s t plan rest [] fresh objects h under = inl (refl, h)
+begins s t plan rest (Asked service generation name present ok floor ∷ deeds) fresh objects h (inl is) = inr (is.0, sym is.1)
+begins s t plan rest (Asked service generation name present ok floor ∷ deeds) fresh objects h (inr not_yet) =
+    absurd (plan_stays h.0 t deeds (λ deed there. objects deed (in_later (Asked service generation name present ok floor) deeds deed there)) h.2 (λ e. some_none h.1.0 (sym (ap (λ (x : Placing). x.plan) h.1.5) ∙ e)) not_yet.0)
+begins s t plan rest (Put service generation name ok floor ∷ deeds) fresh objects h under = absurd (none_ends h.1.0 (asking_of service generation name false) (sym h.1.1 ∙ fresh))
+begins s t plan rest (deed ∷ deeds) fresh objects h under = absurd (objects deed (in_here deed deeds))
 
 module _ (plan : PlanView) (objects : StoreView) (old new : DeskView) (rules : IsPlan plan) (same : (name : Name) → IsPermutation (services_of plan) (order_of plan name)) (rising : IsStrictlySortedBy name_cmp (names_in objects))
     (s : Placing) (rest : List Purpose) (fresh : s.asked ≡ []) (under : IsUnder s plan rest) where
@@ -65,7 +129,7 @@ module _ (plan : PlanView) (objects : StoreView) (old new : DeskView) (rules : I
         deeds = jobs_deeds plan.generation h.jobs;
         grows = h.lays.grows ∙ ap (λ (ds : List Deed). old.deeds ++ ds) (ap (λ (ds : List Deed). jobs_deeds plan.generation h.jobs ++ ds) none ∙ append-nil (jobs_deeds plan.generation h.jobs));
         obeys = run.1;
-        under = run.2;
+        begun = begins s run.0 plan rest (jobs_deeds plan.generation h.jobs) fresh (jobs_objects plan.generation h.jobs) run.1 run.2;
         accepted = ends run.0 run.3;
       }
 
@@ -88,7 +152,8 @@ module _ (plan : PlanView) (objects : StoreView) (old new : DeskView) (rules : I
           deeds = jobs_deeds plan.generation (c.0 ++ c.1 ∷ []) ++ h.cut;
           grows = h.lays.grows ∙ ap (λ (jobs : List Job). old.deeds ++ (jobs_deeds plan.generation jobs ++ h.cut)) c.2;
           obeys = run.1;
-          under = run.2;
+          begun = begins s run.0 plan rest (jobs_deeds plan.generation (c.0 ++ c.1 ∷ []) ++ h.cut) fresh
+              (λ deed there. elim (Contains-append_cases (jobs_deeds plan.generation (c.0 ++ c.1 ∷ [])) h.cut deed there) [ inl own ↦ jobs_objects plan.generation (c.0 ++ c.1 ∷ []) deed own | inr last ↦ cut_objects plan c.1 h.cut c.3 deed last ]) run.1 run.2;
           accepted = tt;
         }
   ]

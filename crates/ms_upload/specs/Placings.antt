@@ -1,11 +1,11 @@
 -- Placing the objects of a store: one job for each, in the order of their names.
-use Rattle.std.specs.Prelude.{◌≡◌, ℕ, ◌+◌, ◌<◌, ◌⊎◌, List, [], ◌∷◌, ◌++◌, Result, Ok, Err, IfOk, All, Contains, length, map, take}
+use Rattle.std.specs.Prelude.{◌≡◌, ℕ, ◌+◌, ◌<◌, ◌⊎◌, List, [], ◌∷◌, ◌++◌, Some, Result, Ok, Err, IfOk, All, Contains, length, map, take}
 use Rattle.std.specs.List.{flat_map}
 use Rattle.ms_core.specs.Placing.{OnEnough}
 use Rattle.ms_core.specs.Views.{log_in}
 use Rattle.ms_local.specs.declared.deed.Deed.{Deed}
 use Rattle.ms_local.specs.Desks.{DeskView, OnTold}
-use Rattle.ms_local.specs.Placing.{HasAccepted, IsUnder, Obeys, Placing, PlacesNext, Purpose}
+use Rattle.ms_local.specs.Placing.{HasAccepted, Obeys, Placing, PlacesNext, Purpose}
 use Rattle.ms_object.specs.Stores.{StoreView, names_in}
 use Rattle.ms_base.specs.declared.names.Name.{Name}
 use Rattle.ms_record.specs.declared.log.LogEvent.TheVariants.{Drop}
@@ -76,12 +76,12 @@ pub record PlacedTo (plan : PlanView) (names : List Name) (old new : DeskView) (
 abbrev pub AreOnEnough : PlanView → StoreView → DeskView → Type 0
 AreOnEnough plan objects new = (name : Name) → Contains (names_in objects) name → OnEnough (λ s. HasPut (log_in new.pass.lists s) plan.generation name) plan
 
--- From a state in which is placed under this plan the deeds keep the rule of placing, and the state behind them is one. Where all is
--- placed, enough services of the plan have accepted each object by then.
+-- From a state in which is placed under this plan the deeds keep the rule of placing: without a deed the state is as before, else it is
+-- placed under the plan by then. Where all is placed, enough services of the plan have accepted each object.
 pub record KeepsPlacing (plan : PlanView) (objects : StoreView) (old new : DeskView) (s : Placing) (rest : List Purpose) (result : Result Placed Unplaced) : Type 0 where
   pub t : Placing
   pub deeds : List Deed
   pub grows : new.deeds ≡ old.deeds ++ deeds
   pub obeys : Obeys PlacesNext s deeds t
-  pub under : IsUnder t plan rest
+  pub begun : ((deeds ≡ []) × (t ≡ s)) ⊎ ((t.plan ≡ Some plan) × (t.own ≡ rest))
   pub accepted : IfOk result (λ placed. (name : Name) → Contains (names_in objects) name → OnEnough (HasAccepted t.asked plan.generation name) plan)
