@@ -46,11 +46,21 @@ impl Store {
         ensures err { OnErr result (self.new ≡ self.old) }
     {
         let name = name_of(text.as_slice());
-        if self.texts.contains_key(&name) {
-            return Ok(name);
-        }
-        self.texts.insert(name, text)?;
+        self.add_named(&name, text)?;
         Ok(name)
+    }
+
+    /// Puts a text under its SHA-256, which the caller has. A text that is there stays.
+    pub fn add_named(&mut self, name: &Name, text: Bytes) -> Result<(), NoMemory>
+        requires named { name.now.0 ≡ sha_name text }
+        ensures texts { OnOk result ((name : List ℕ) → text_of self.new name ≡ text_after (text_of self.old) text name) }
+        ensures err { OnErr result (self.new ≡ self.old) }
+    {
+        if self.texts.contains_key(name) {
+            return Ok(());
+        }
+        self.texts.insert(*name, text)?;
+        Ok(())
     }
 
     /// The text of this name.

@@ -4,6 +4,7 @@ ghost use Rattle.std.specs.Prelude.{◌≡◌};
 ghost use Rattle.ms_record.specs.declared.refusal.Refusal.TheVariants as refusals;
 
 use crate::ballot::Ballot;
+use crate::key::Key;
 use crate::services::ServiceSet;
 use ms_base::{Items, Name, NoMemory, Quantity, ServiceId};
 use std::alloc::{AllocError, AllocFailed};
@@ -49,6 +50,27 @@ pub struct Rival {
 /// What outbid the bids of one call, in their order.
 pub type Rivals = Items<Rival>;
 
+/// Why a service did not give the bytes of an object.
+#[derive(Clone, Copy)]
+pub enum Reason {
+    /// Its call failed.
+    Failed,
+    /// It said that it has no such object.
+    Absent,
+    /// It gave bytes whose SHA-256 is this one, which is not the object's name.
+    Altered { found: Name },
+}
+
+/// A service, and why it did not give an object's bytes.
+#[derive(Clone, Copy)]
+pub struct ReasonRow {
+    pub service: ServiceId,
+    pub reason: Reason,
+}
+
+/// Why each service did not give an object's bytes, in the order in which they were asked.
+pub type Reasons = Items<ReasonRow>;
+
 /// Why a call gave no answer. `docs/FORMATS.md` has the statuses and the texts.
 #[derive(Drop)]
 pub enum Refusal {
@@ -71,8 +93,17 @@ pub enum Refusal {
     Contended {
         rivals: Rivals,
     },
+    /// No service gave the bytes of the object of this name.
+    LostObject {
+        name: Name,
+        reasons: Reasons,
+    },
     /// Memory ran out.
     NoMemory,
+    /// What is kept under the key is absent, or is not what it has to be.
+    LocalDamaged {
+        key: Key,
+    },
     /// Two entries of these names are chosen at the position.
     Split {
         position: u32,
@@ -84,6 +115,15 @@ pub enum Refusal {
         what: Quantity,
         value: u64,
     },
+    /// A service has dropped all objects of generations below this floor.
+    Collected {
+        floor: u32,
+    },
+    /// Fewer services than the plan's replicas accepted the object of this name; the calls to these failed.
+    TooFew {
+        name: Name,
+        failed: ServiceSet,
+    },
     /// That condition of the event with this number, from 1, fails.
     NotEnabled {
         event: u64,
@@ -93,6 +133,10 @@ pub enum Refusal {
     Unlisted {
         service: ServiceId,
         ballot: Ballot,
+    },
+    /// The bytes of this name are no object of the kind that names them.
+    Broken {
+        name: Name,
     },
 }
 

@@ -70,6 +70,11 @@ once command old new (Err (refusals.NotEnabled number why)) h = h
 once command old new (Err (refusals.NoMajority failed)) h = h
 once command old new (Err (refusals.Contended rivals)) h = h
 once command old new (Err (refusals.Unlisted service ballot)) h = h
+once command old new (Err (refusals.LostObject name rows)) h = h
+once command old new (Err (refusals.LocalDamaged key)) h = h
+once command old new (Err (refusals.Collected floor)) h = h
+once command old new (Err (refusals.TooFew name failed)) h = h
+once command old new (Err (refusals.Broken name)) h = h
 
 command_once : (asked : Option Command) (old new : OutsideView) (result : Result Report Refusal) → ByCommand asked old new result → ReadsOnce asked old new result
 command_once None old new result h = ap (λ (v : OutsideView). v.inputs.reads) h.0
@@ -96,6 +101,11 @@ untold (Some command) old new (Err (refusals.NotEnabled number why)) h = inr h
 untold (Some command) old new (Err (refusals.NoMajority failed)) h = inr h
 untold (Some command) old new (Err (refusals.Contended rivals)) h = inr h
 untold (Some command) old new (Err (refusals.Unlisted service ballot)) h = inr h
+untold (Some command) old new (Err (refusals.LostObject name rows)) h = inr h
+untold (Some command) old new (Err (refusals.LocalDamaged key)) h = inr h
+untold (Some command) old new (Err (refusals.Collected floor)) h = inr h
+untold (Some command) old new (Err (refusals.TooFew name failed)) h = inr h
+untold (Some command) old new (Err (refusals.Broken name)) h = inr h
 
 -- ---- a fault has its count
 
@@ -138,6 +148,11 @@ module _ (command : Option Command) (old new : OutsideView) where
   rose (reports.Refused (refusals.NoMajority failed)) c e = absurd c
   rose (reports.Refused (refusals.Contended rivals)) c e = absurd c
   rose (reports.Refused (refusals.Unlisted service ballot)) c e = absurd c
+  rose (reports.Refused (refusals.LostObject name rows)) c e = absurd c
+  rose (reports.Refused (refusals.LocalDamaged key)) c e = absurd c
+  rose (reports.Refused (refusals.Collected floor)) c e = absurd c
+  rose (reports.Refused (refusals.TooFew name failed)) c e = absurd c
+  rose (reports.Refused (refusals.Broken name)) c e = absurd c
 
   caused : (report : Report) (before after : SinkView) (status : ℕ) → CauseOf command old new report → Tells report before after status → status ≡ 3
       → Rose old.inputs.faults new.inputs.faults ⊎ Rose before.faults after.faults

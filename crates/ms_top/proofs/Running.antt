@@ -63,6 +63,11 @@ stops drill events i event old new given refusal ranges same within at so_far st
     by (refusals.NoMajority failed) s = absurd s
     by (refusals.Contended rivals) s = absurd s
     by (refusals.Unlisted service ballot) s = absurd s
+    by (refusals.LostObject name rows) s = absurd s
+    by (refusals.LocalDamaged key) s = absurd s
+    by (refusals.Collected floor) s = absurd s
+    by (refusals.TooFew name failed) s = absurd s
+    by (refusals.Broken name) s = absurd s
 
 client_there : (clients : List ClientView) (i : ℕ) → i < length clients → (c : ClientView) × (slice_get clients i ≡ Some c)
 client_there clients i within = by (slice_get_cases clients i).1

@@ -9,7 +9,12 @@ use Rattle.ms_record.specs.declared.entry.Entry.{Entry}
 use Rattle.ms_record.specs.declared.refusal.Place.{Place}
 use Rattle.ms_record.specs.declared.refusal.Place.TheVariants as places
 use Rattle.ms_record.specs.declared.refusal.Refusal.{Refusal}
-use Rattle.ms_record.specs.declared.refusal.Refusal.TheVariants.{Usage, BadInput, OutsideFault, NoMajority, Contended, NoMemory, Split, Limit, NotEnabled, Unlisted}
+use Rattle.ms_record.specs.declared.key.Key.{Key}
+use Rattle.ms_record.specs.declared.key.Key.TheVariants as keys
+use Rattle.ms_record.specs.declared.refusal.Reason.{Reason}
+use Rattle.ms_record.specs.declared.refusal.Reason.TheVariants as reasons
+use Rattle.ms_record.specs.declared.refusal.ReasonRow.{ReasonRow}
+use Rattle.ms_record.specs.declared.refusal.Refusal.TheVariants.{Usage, BadInput, OutsideFault, NoMajority, Contended, LostObject, NoMemory, LocalDamaged, Split, Limit, Collected, TooFew, NotEnabled, Unlisted, Broken}
 use Rattle.ms_record.specs.declared.refusal.Rival.{Rival}
 use Rattle.ms_record.specs.declared.refusal.Why.{Why}
 use Rattle.ms_record.specs.declared.refusal.Why.TheVariants as whys
@@ -24,11 +29,16 @@ refusal_status (BadInput place line) = 2
 refusal_status (OutsideFault place) = 3
 refusal_status (NoMajority failed) = 5
 refusal_status (Contended rivals) = 6
+refusal_status (LostObject name rows) = 7
 refusal_status NoMemory = 8
+refusal_status (LocalDamaged key) = 9
 refusal_status (Split position first second) = 10
 refusal_status (Limit what value) = 11
+refusal_status (Collected floor) = 13
+refusal_status (TooFew name failed) = 14
 refusal_status (NotEnabled event why) = 16
 refusal_status (Unlisted service ballot) = 17
+refusal_status (Broken name) = 18
 
 abbrev pub status_of : Report → ℕ
 status_of (Refused refusal) = refusal_status refusal
@@ -154,6 +164,41 @@ abbrev pub rival_lines : List Rival → List ℕ
 rival_lines [] = []
 rival_lines (rival ∷ rivals) = rival_line rival ++ rival_lines rivals
 
+-- why a service did not give an object's bytes: `failed`, `absent` or `altered HASH`
+unfoldable pub reason_word : Reason → List ℕ
+reason_word reasons.Failed = codes "failed"
+reason_word reasons.Absent = codes "absent"
+reason_word (reasons.Altered found) = codes "altered " ++ encode_lower found.0
+
+-- `service S REASON`
+unfoldable pub reason_line : ReasonRow → List ℕ
+reason_line row = codes "service " ++ decimal row.service.0 ++ codes " " ++ reason_word row.reason ++ codes "\n"
+
+abbrev pub reason_lines : List ReasonRow → List ℕ
+reason_lines [] = []
+reason_lines (row ∷ rows) = reason_line row ++ reason_lines rows
+
+-- `lost NAME`, then a line for each service that was asked
+unfoldable pub lost_lines : Name → List ReasonRow → List ℕ
+lost_lines name rows = codes "lost " ++ encode_lower name.0 ++ codes "\n" ++ reason_lines rows
+
+-- `damaged state` or `damaged NAME`
+unfoldable pub damaged_line : Key → List ℕ
+damaged_line keys.State = codes "damaged state\n"
+damaged_line (keys.Object name) = codes "damaged " ++ encode_lower name.0 ++ codes "\n"
+
+-- `collected FLOOR`
+unfoldable pub collected_line : ℕ → List ℕ
+collected_line floor = codes "collected " ++ decimal floor ++ codes "\n"
+
+-- `too few NAME` and the numbers of the services that failed
+unfoldable pub too_few_line : Name → List ℕ → List ℕ
+too_few_line name failed = codes "too few " ++ encode_lower name.0 ++ service_words failed ++ codes "\n"
+
+-- `broken NAME`
+unfoldable pub broken_line : Name → List ℕ
+broken_line name = codes "broken " ++ encode_lower name.0 ++ codes "\n"
+
 -- `unlisted S`
 unfoldable pub unlisted_line : ℕ → List ℕ
 unlisted_line service = codes "unlisted " ++ decimal service ++ codes "\n"
@@ -176,15 +221,21 @@ refusal_text (BadInput place line) = bad_line place line
 refusal_text (OutsideFault place) = fault_line place
 refusal_text (NoMajority failed) = no_majority_line failed
 refusal_text (Contended rivals) = codes "contended\n" ++ rival_lines rivals
+refusal_text (LostObject name rows) = lost_lines name rows
 refusal_text NoMemory = codes "no memory\n"
+refusal_text (LocalDamaged key) = damaged_line key
 refusal_text (Split position first second) = split_line position first second
 refusal_text (Limit what value) = limit_line what value
+refusal_text (Collected floor) = collected_line floor
+refusal_text (TooFew name failed) = too_few_line name failed
 refusal_text (NotEnabled event why) = event_line event why
 refusal_text (Unlisted service ballot) = unlisted_line service.0
+refusal_text (Broken name) = broken_line name
 
 -- it has more lines than one
 abbrev pub HasManyLines : Refusal → Type 0
 HasManyLines (Contended rivals) = Unit {0}
+HasManyLines (LostObject name rows) = Unit {0}
 HasManyLines refusal = ⊥
 
 abbrev pub text_of : Report → List ℕ

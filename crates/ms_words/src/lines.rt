@@ -3,12 +3,12 @@
 ghost use Rattle.std.specs.Prelude.{◌≡◌, ◌++◌, OnOk, codes};
 ghost use Rattle.hex.specs.Hex.{encode_lower};
 ghost use Rattle.ms_record.specs.Entries.{name_of};
-ghost use Rattle.ms_words.specs.Texts.{kind_word, generation_word, author_text, member_line, member_lines, audit_text, drill_text, hash_text, known_line, known_lines, refusal_text, rival_line, rival_lines};
+ghost use Rattle.ms_words.specs.Texts.{HasManyLines, kind_word, generation_word, author_text, member_line, member_lines, audit_text, drill_text, hash_text, known_line, known_lines, reason_line, reason_lines, reason_word, refusal_text, rival_line, rival_lines, lost_lines};
 
 use crate::reasons::kind_word;
 use crate::refusals::refusal_line;
 use ms_base::{Name, NoMemory};
-use ms_record::{Entry, Refusal, Rival, entry_name};
+use ms_record::{Entry, Reason, ReasonRow, Refusal, Rival, entry_name};
 use ms_text::{push_name, push_number, push_text};
 
 fn push_kind(out: &mut Vec<u8>, entry: &Entry) -> Result<(), NoMemory>
@@ -170,13 +170,66 @@ fn push_contended(out: &mut Vec<u8>, rivals: &[Rival]) -> Result<(), NoMemory>
     push_rivals(out, rivals)
 }
 
+#[tactic(auto, unfolding(crate::specs::Texts::reason_word))]
+fn push_reason(out: &mut Vec<u8>, reason: &Reason) -> Result<(), NoMemory>
+    ensures { OnOk result (out.new.items ≡ out.old.items ++ reason_word reason.now) }
+{
+    match reason {
+        Reason::Failed => push_text(out, b"failed"),
+        Reason::Absent => push_text(out, b"absent"),
+        Reason::Altered { found } => {
+            push_text(out, b"altered ")?;
+            push_name(out, &found.0)
+        }
+    }
+}
+
+#[tactic(auto, unfolding(crate::specs::Texts::reason_line))]
+fn push_reason_row(out: &mut Vec<u8>, row: &ReasonRow) -> Result<(), NoMemory>
+    ensures { OnOk result (out.new.items ≡ out.old.items ++ reason_line row.now) }
+{
+    push_text(out, b"service ")?;
+    push_number(out, u64::from(row.service.0))?;
+    push_text(out, b" ")?;
+    push_reason(out, &row.reason)?;
+    push_text(out, b"\n")
+}
+
+fn push_reasons(out: &mut Vec<u8>, rows: &[ReasonRow]) -> Result<(), NoMemory>
+    ensures { OnOk result (out.new.items ≡ out.old.items ++ reason_lines rows.now) }
+{
+    for i in 0..rows.len() {
+        push_reason_row(out, &rows[i])?;
+    }
+    Ok(())
+}
+
+#[tactic(auto, unfolding(crate::specs::Texts::lost_lines))]
+fn push_lost(out: &mut Vec<u8>, name: &Name, rows: &[ReasonRow]) -> Result<(), NoMemory>
+    ensures { OnOk result (out.new.items ≡ out.old.items ++ lost_lines name.now rows.now) }
+{
+    push_text(out, b"lost ")?;
+    push_name(out, &name.0)?;
+    push_text(out, b"\n")?;
+    push_reasons(out, rows)
+}
+
 /// The lines of a refusal.
 pub(crate) fn push_refusal(out: &mut Vec<u8>, refusal: &Refusal) -> Result<(), NoMemory>
     ensures { OnOk result (out.new.items ≡ out.old.items ++ refusal_text refusal.now) }
 {
-    if let Refusal::Contended { rivals } = refusal {
-        return push_contended(out, rivals.as_slice());
+    match refusal {
+        Refusal::Contended { rivals } => push_contended(out, rivals.as_slice()),
+        Refusal::LostObject { name, reasons } => push_lost(out, name, reasons.as_slice()),
+        _ => push_one_line(out, refusal),
     }
+}
+
+/// The line of a refusal that has no more.
+fn push_one_line(out: &mut Vec<u8>, refusal: &Refusal) -> Result<(), NoMemory>
+    requires { HasManyLines refusal.now → ⊥ }
+    ensures { OnOk result (out.new.items ≡ out.old.items ++ refusal_text refusal.now) }
+{
     match refusal_line(refusal) {
         Some(line) => push_text(out, line.as_bytes()),
         None => unreachable!(),

@@ -74,11 +74,16 @@ fn refusal_status(refusal: &Refusal) -> u8
         Refusal::OutsideFault { .. } => 3,
         Refusal::NoMajority { .. } => 5,
         Refusal::Contended { .. } => 6,
+        Refusal::LostObject { .. } => 7,
         Refusal::NoMemory => 8,
+        Refusal::LocalDamaged { .. } => 9,
         Refusal::Split { .. } => 10,
         Refusal::Limit { .. } => 11,
+        Refusal::Collected { .. } => 13,
+        Refusal::TooFew { .. } => 14,
         Refusal::NotEnabled { .. } => 16,
         Refusal::Unlisted { .. } => 17,
+        Refusal::Broken { .. } => 18,
     }
 }
 

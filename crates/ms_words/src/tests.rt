@@ -2,7 +2,10 @@
 
 use crate::{Command, Report, Verb, WordsError, print_report, read_words, status};
 use ms_base::{ClientId, Items, Name, NoMemory, Quantity, ServiceId};
-use ms_record::{Ballot, Entry, Place, Plan, PlanRow, Refusal, Rival, ServiceSet, Why, wrong_line};
+use ms_record::{
+    Ballot, Entry, Key, Place, Plan, PlanRow, Reason, ReasonRow, Refusal, Rival, ServiceSet, Why,
+    wrong_line,
+};
 use std::alloc::Global;
 use std::test::*;
 
@@ -149,7 +152,7 @@ fn lines_of_a_tree(rt: HostRuntime) {
 }
 
 /// The line and the status of each refusal below.
-const REFUSALS: [(&str, u8); 11] = [
+const REFUSALS: [(&str, u8); 17] = [
     ("usage\n", 1),
     ("bad config 5\n", 2),
     ("bad input 4294967295\n", 2),
@@ -168,6 +171,26 @@ const REFUSALS: [(&str, u8); 11] = [
     ),
     ("limit input 16777217\n", 11),
     ("event 18 turned\n", 16),
+    (
+        "lost 1111111111111111111111111111111111111111111111111111111111111111\n\
+        service 2 failed\nservice 0 absent\n\
+        service 15 altered abababababababababababababababababababababababababababababababab\n",
+        7,
+    ),
+    ("damaged state\n", 9),
+    (
+        "damaged abababababababababababababababababababababababababababababababab\n",
+        9,
+    ),
+    ("collected 4294967294\n", 13),
+    (
+        "too few 1111111111111111111111111111111111111111111111111111111111111111 1 15\n",
+        14,
+    ),
+    (
+        "broken abababababababababababababababababababababababababababababababab\n",
+        18,
+    ),
 ];
 
 fn ballot(round: u32, client: u32) -> Ballot {
@@ -190,6 +213,39 @@ fn two() -> ServiceSet {
     failed.add(ServiceId(1));
     failed.add(ServiceId(15));
     failed
+}
+
+fn reason(service: u32, reason: Reason) -> ReasonRow {
+    ReasonRow {
+        service: ServiceId(service),
+        reason,
+    }
+}
+
+/// The refusals of commands that read and place objects.
+fn object_refusal_at(place: usize, reasons: Vec<ReasonRow>) -> Refusal {
+    match place {
+        11 => Refusal::LostObject {
+            name: Name([17; 32]),
+            reasons: Items::from_vec(reasons),
+        },
+        12 => Refusal::LocalDamaged { key: Key::State },
+        13 => Refusal::LocalDamaged {
+            key: Key::Object {
+                name: Name([171; 32]),
+            },
+        },
+        14 => Refusal::Collected {
+            floor: 4_294_967_294,
+        },
+        15 => Refusal::TooFew {
+            name: Name([17; 32]),
+            failed: two(),
+        },
+        _ => Refusal::Broken {
+            name: Name([171; 32]),
+        },
+    }
 }
 
 fn refusal_at(place: usize, rivals: Vec<Rival>) -> Refusal {
@@ -232,9 +288,34 @@ fn refusal_tells(alloc: Global, place: usize, told: (&str, u8)) -> bool {
     tells(alloc, &Report::Refused { refusal }, told.0, told.1)
 }
 
+fn object_refusal_tells(alloc: Global, place: usize, told: (&str, u8)) -> bool {
+    let rows = [
+        reason(2, Reason::Failed),
+        reason(0, Reason::Absent),
+        reason(
+            15,
+            Reason::Altered {
+                found: Name([171; 32]),
+            },
+        ),
+    ];
+    let Ok(reasons) = Vec::from_slice(alloc, &rows) else {
+        return false;
+    };
+    let refusal = object_refusal_at(place, reasons);
+    tells(alloc, &Report::Refused { refusal }, told.0, told.1)
+}
+
+#[test]
+fn lines_of_refusals_on_objects(rt: HostRuntime) {
+    for place in 11..REFUSALS.len() {
+        assert!(rt; object_refusal_tells(rt.alloc(), place, REFUSALS[place]));
+    }
+}
+
 #[test]
 fn lines_of_refusals(rt: HostRuntime) {
-    for place in 0..REFUSALS.len() {
+    for place in 0..11 {
         assert!(rt; refusal_tells(rt.alloc(), place, REFUSALS[place]));
     }
 }
