@@ -24,7 +24,7 @@ free_below files path rows free k d lt file here =
     (subst (λ (y : List ℕ). Differ (one ++ []) y) (sym (append_assoc (path ++ 47 ∷ []) label (47 ∷ []))) (Differ-on one (path ++ 47 ∷ []) [] (label ++ 47 ∷ []) (free file here)))
 
 -- two rows of a directory have different labels
-rows_differ : (rows : List SizedRow) (i j : ℕ) (d : SizedRow) → IsSizedDir rows → i < j → j < length rows → (get_or rows i d).label ≢ (get_or rows j d).label
+pub rows_differ : (rows : List SizedRow) (i j : ℕ) (d : SizedRow) → IsSizedDir rows → i < j → j < length rows → (get_or rows i d).label ≢ (get_or rows j d).label
 rows_differ rows i j d h lt within e =
     let labels = map (λ (r : SizedRow). r.label) rows in
     let label = (get_or rows i d).label in

@@ -17,7 +17,7 @@ use Rattle.ms_tree.proofs.PathLaws.{path_Decides}
 abbrev slashed : List ℕ → List ℕ
 slashed label = label ++ 47 ∷ []
 
-no_slash : (label : List ℕ) → IsLabel label → All (λ b. eqb b 47 ≡ false) label
+pub no_slash : (label : List ℕ) → IsLabel label → All (λ b. eqb b 47 ≡ false) label
 no_slash label h k d lt = ne_eqb (get_or label k d) 47 (λ e. h.no_slash (k, lt, get_or_default label k 47 d lt ∙ e))
 
 part_from_label : (label : List ℕ) → IsLabel label → IsPart label

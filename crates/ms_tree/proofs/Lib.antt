@@ -12,12 +12,17 @@ pub mod Faults
 pub mod Walks
 pub mod Named
 pub mod Joining
+pub mod Looked
 pub mod Adding
 pub mod Fronts
 pub mod Freeing
 pub mod Treeing
 pub mod OneTree
 pub mod TwoStores
+pub mod Shifted
+pub mod Composed
+pub mod SameWalks
+pub mod Weighed
 pub mod AddedLaws
 pub mod Members
 pub mod FirstParts

@@ -1,5 +1,5 @@
 -- What is in a list that has one item more, one alone, or the items of several.
-use Rattle.std.proofs.Common.{◌≡◌, zero, suc, List, [], ◌∷◌, Contains, ◌⊎◌, inl, inr, refl, arith}
+use Rattle.std.proofs.Common.{◌≡◌, zero, suc, List, [], ◌∷◌, map, Contains, ◌⊎◌, inl, inr, refl, ap, arith}
 use Rattle.std.specs.List.{flat_map}
 use Rattle.std.proofs.lemmas.List.Elements.{Contains-append_cases}
 
@@ -18,6 +18,10 @@ behind y xs x h = (suc h.0, omega (arith, h.1), h.2)
 
 pub only_item : {X : Type 0} (y x : X) → Contains (y ∷ []) x → y ≡ x
 only_item y x h = elim (in_front y [] x h) [ inl e ↦ e | inr none ↦ absurd (no_item x none) ]
+
+pub map_has : {X Y : Type 0} (f : X → Y) (xs : List X) (x : X) → Contains xs x → Contains (map f xs) (f x)
+map_has f [] x h = absurd (no_item x h)
+map_has f (y ∷ xs) x h = elim (in_front y xs x h) [ inl e ↦ at_front (f y) (map f xs) (f x) (ap f e) | inr later ↦ behind (f y) (map f xs) (f x) (map_has f xs x later) ]
 
 pub in_flat_map : {X A : Type 0} (f : X → List A) (xs : List X) (a : A) → Contains (flat_map f xs) a → (x : X) × Contains xs x × Contains (f x) a
 in_flat_map f [] a h = absurd (no_item a h)

@@ -18,7 +18,7 @@ abbrev below_top : Texts → TopRows → List Met
 below_top store top = walk_rows top.0 64 store [] top.1
 
 -- the walk below a root whose rows are known
-walk_is : (store : Texts) (root : Name) (top : Result TopRows GatherError) → or_fault (object_named store root) (top_of root) ≡ top → walk store root ≡ met_below top (below_top store)
+pub walk_is : (store : Texts) (root : Name) (top : Result TopRows GatherError) → or_fault (object_named store root) (top_of root) ≡ top → walk store root ≡ met_below top (below_top store)
 unfolding walk
 walk_is store root top e = ap (λ (r : Result TopRows GatherError). met_below r (below_top store)) e
 

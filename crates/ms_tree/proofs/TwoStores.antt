@@ -24,10 +24,10 @@ use Rattle.ms_tree.proofs.Named.{nothing_named, named_text}
 use Rattle.ms_tree.proofs.OneTree.{rising_same}
 
 -- no fault was met
-abbrev fine : List Met → Bool
+abbrev pub fine : List Met → Bool
 fine met = list_all is_ok met
 
-fine-append : (xs ys : List Met) → fine (xs ++ ys) ≡ (fine xs && fine ys)
+pub fine-append : (xs ys : List Met) → fine (xs ++ ys) ≡ (fine xs && fine ys)
 fine-append [] ys = refl
 fine-append (Ok f ∷ xs) ys = fine-append xs ys
 fine-append (Err e ∷ xs) ys = refl
@@ -37,7 +37,7 @@ second_off true b e = e
 second_off false b e = refl
 
 -- a walk that no fault ends met none
-no_fault : (count total : ℕ) (met : List Met) → first_fault count total met ≡ None → fine met ≡ true
+pub no_fault : (count total : ℕ) (met : List Met) → first_fault count total met ≡ None → fine met ≡ true
 no_fault count total [] h = refl
 no_fault count total (Err e ∷ met) h = absurd cc
 no_fault count total (Ok file ∷ met) h = at_count (nat_lt 100000 (count + 1)) (nat_lt 1073741824 (total + length file.1)) h (no_fault (count + 1) (total + length file.1) met)

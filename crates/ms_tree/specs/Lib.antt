@@ -5,6 +5,9 @@ pub mod FilesInside
 pub mod Listings
 pub mod Stores
 pub mod Gathering
+pub mod Looking
+pub mod Composing
+pub mod Sizes
 pub mod Planting
 pub mod Folders
 pub mod Merging

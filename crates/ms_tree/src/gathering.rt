@@ -21,13 +21,10 @@ ghost use Rattle.ms_tree.specs.Gathering.{Gives, IsFront, IsFilePath, IsFree, Ar
 
 use crate::files::Files;
 use crate::limits::FilesError;
+use crate::looking::{blob_named, file_parts, inner_rows, top_named};
 use ms_base::limits::{LEVELS, PATH_BYTES};
-use ms_base::{Bytes, Items, Name, NoMemory, Quantity};
-use ms_object::object::one_spelling;
-use ms_object::{
-    Format, GatherError, Kind, Names, Object, ObjectError, Rows, SizedRow, SizedRows, Store,
-    blob_in, parse,
-};
+use ms_base::{Bytes, Name, Quantity};
+use ms_object::{Format, GatherError, Kind, SizedRow, Store};
 use std::alloc::Global;
 
 /// The files of the tree below the root of that name, whose format all objects of the tree have. The first fault of a
@@ -190,26 +187,6 @@ fn add_file(
     }
 }
 
-/// A file: its size, and the blobs that have its bytes.
-#[derive(Drop)]
-struct FileParts {
-    size: u64,
-    blobs: Names,
-}
-
-/// What the object of a file says, where it is one of that format.
-fn file_parts(format: Format, object: Object) -> Option<FileParts>
-    requires { IsObject object }
-    ensures parts { option_map (λ f. (f.size, f.blobs)) result ≡ file_in format object }
-    ensures fits { IfSome result (λ f. f.size ≤ most_file format) }
-{
-    match (format, object) {
-        (Format::One, Object::File { size, blobs }) => Some(FileParts { size, blobs }),
-        (Format::Two, Object::File2 { size, blobs }) => Some(FileParts { size, blobs }),
-        _ => None,
-    }
-}
-
 /// The bytes of the file of that name.
 #[tactic(auto, unfolding(ms_object::specs::Trees::file_named))]
 fn file_bytes(
@@ -221,11 +198,8 @@ fn file_bytes(
     ensures exact { Gives (file_named format (text_of store.now) name.now) result }
     ensures short { IfOk result (λ text. length text ≤ most_file format) }
 {
-    let object = object_named(alloc, store, name)?;
-    match file_parts(format, object) {
-        Some(file) => join_blobs(alloc, store, format, file.size, file.blobs.as_slice()),
-        None => Err(GatherError::WrongKind { name: *name }),
-    }
+    let file = file_parts(alloc, store, format, name)?;
+    join_blobs(alloc, store, format, file.size, file.blobs.as_slice())
 }
 
 /// The bytes of blobs, which are so many together.
@@ -252,139 +226,6 @@ fn join_blobs(
         left -= wanted;
     }
     Ok(Bytes::from_vec(text))
-}
-
-/// The bytes of the blob of that name, which has so many.
-fn blob_named<'a>(
-    store: &'a Store,
-    format: Format,
-    name: &Name,
-    size: u64,
-) -> Result<&'a [u8], GatherError>
-    ensures { or_fault (object_in (text_of store.now) name.now) (blob_of format name.now size) ≡ result_map_both (λ x. x.now) (λ e. e) result }
-{
-    match store.get(name) {
-        Some(text) => read_blob(format, name, text, size),
-        None => Err(GatherError::Missing { name: *name }),
-    }
-}
-
-/// The bytes of the blob that the text of that name is.
-fn read_blob<'a>(
-    format: Format,
-    name: &Name,
-    text: &'a [u8],
-    size: u64,
-) -> Result<&'a [u8], GatherError>
-    ensures { or_fault (object_or_fault name.now (object_at text.now)) (blob_of format name.now size) ≡ result_map_both (λ x. x.now) (λ e. e) result }
-{
-    let Some(bytes) = blob_in(format, text) else {
-        return Err(GatherError::WrongKind { name: *name });
-    };
-    if bytes.len() as u64 != size {
-        return Err(GatherError::WrongKind { name: *name });
-    }
-    Ok(bytes)
-}
-
-/// The rows of the directory of that format and name, which has some.
-fn inner_rows(
-    alloc: Global,
-    store: &Store,
-    format: Format,
-    name: &Name,
-) -> Result<SizedRows, GatherError>
-    ensures exact { Gives (or_fault (object_in (text_of store.now) name.now) (inner_rows_of format name.now)) result }
-    ensures rows { IfOk result IsSizedDir }
-{
-    let object = object_named(alloc, store, name)?;
-    let Some(rows) = rows_of(alloc, format, object)? else {
-        return Err(GatherError::WrongKind { name: *name });
-    };
-    if rows.len() == 0 {
-        return Err(GatherError::WrongKind { name: *name });
-    }
-    Ok(rows)
-}
-
-/// The rows of a directory, where the object is one of that format.
-fn rows_of(alloc: Global, format: Format, object: Object) -> Result<Option<SizedRows>, NoMemory>
-    requires { IsObject object }
-    ensures rows { IfOk result (λ rows. rows ≡ rows_in format object) }
-    ensures dir { IfOk result (λ rows. IfSome rows IsSizedDir) }
-{
-    match (format, object) {
-        (Format::One, Object::Dir { rows }) => Ok(Some(without_sizes(alloc, rows)?)),
-        (Format::Two, Object::Dir2 { rows }) => Ok(Some(rows)),
-        _ => Ok(None),
-    }
-}
-
-/// The rows of a directory of format 1, which say no size.
-fn without_sizes(alloc: Global, rows: Rows) -> Result<SizedRows, NoMemory>
-    requires { IsDir rows }
-    ensures rows { IfOk result (λ sized. sized ≡ map unsized rows) }
-    ensures dir { IfOk result IsSizedDir }
-{
-    let sized = rows.into_vec().into_iter().map(|row| SizedRow {
-        kind: row.kind,
-        label: row.label,
-        size: 0,
-        name: row.name,
-    });
-    Ok(Items::from_vec(sized.collect(alloc)?))
-}
-
-/// The root of a tree: its format, and its rows.
-#[derive(Drop)]
-struct Top {
-    format: Format,
-    rows: SizedRows,
-}
-
-/// The directory of that name, of either format.
-fn top_named(alloc: Global, store: &Store, name: &Name) -> Result<Top, GatherError>
-    ensures exact { Gives (or_fault (object_in (text_of store.now) name.now) (top_of name.now)) (result_map_both (λ top. (top.format, top.rows)) (λ e. e) result) }
-    ensures rows { IfOk result (λ top. IsSizedDir top.rows) }
-    ensures missing { text_of store.now name.now.0 ≡ None → result ≡ Err (faults.Missing name.now) }
-{
-    match object_named(alloc, store, name)? {
-        Object::Dir { rows } => Ok(Top {
-            format: Format::One,
-            rows: without_sizes(alloc, rows)?,
-        }),
-        Object::Dir2 { rows } => Ok(Top {
-            format: Format::Two,
-            rows,
-        }),
-        _ => Err(GatherError::WrongKind { name: *name }),
-    }
-}
-
-/// The object of that name.
-fn object_named(alloc: Global, store: &Store, name: &Name) -> Result<Object, GatherError>
-    ensures exact { Gives (object_in (text_of store.now) name.now) result }
-    ensures ranges { IfOk result IsObject }
-    ensures missing { text_of store.now name.now.0 ≡ None → result ≡ Err (faults.Missing name.now) }
-{
-    match store.get(name) {
-        Some(text) => read_object(alloc, name, text),
-        None => Err(GatherError::Missing { name: *name }),
-    }
-}
-
-/// The object that the text of that name is.
-fn read_object(alloc: Global, name: &Name, text: &[u8]) -> Result<Object, GatherError>
-    ensures exact { Gives (object_or_fault name.now (object_at text.now)) result }
-    ensures ranges { IfOk result IsObject }
-{
-    one_spelling();
-    match parse(alloc, text) {
-        Ok(object) => Ok(object),
-        Err(ObjectError::NoMemory) => Err(GatherError::NoMemory),
-        Err(ObjectError::NotAnObject) => Err(GatherError::WrongKind { name: *name }),
-        Err(ObjectError::TooLarge { .. }) => Err(GatherError::WrongKind { name: *name }),
-    }
 }
 
 /// There is one tree below a name: in one store, and in two that keep texts under their SHA-256, unless texts of them

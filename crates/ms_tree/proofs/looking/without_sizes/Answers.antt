@@ -3,7 +3,7 @@ use Rattle.ms_object.specs.declared.object.SizedRow.{SizedRow}
 use Rattle.ms_object.specs.Objects.{IsSizedDir}
 use Rattle.ms_object.specs.Trees.{unsized}
 use Rattle.ms_tree.proofs.PlainRows.{dir_unsized}
-use Rattle.ms_tree.proofs.gathering.without_sizes.Goals as goal
+use Rattle.ms_tree.proofs.looking.without_sizes.Goals as goal
 
 pub returns-clause-dir : goal.returns-clause-dir
 returns-clause-dir c =

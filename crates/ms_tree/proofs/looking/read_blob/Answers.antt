@@ -1,6 +1,6 @@
 use Rattle.std.proofs.Common.{◌∙◌}
 use Rattle.ms_tree.proofs.Named.{blob_wanted, size_right, size_wrong}
-use Rattle.ms_tree.proofs.gathering.read_blob.Goals as goal
+use Rattle.ms_tree.proofs.looking.read_blob.Goals as goal
 
 pub returns-in_default : goal.returns-in_default
 returns-in_default c = blob_wanted c.args.format c.args.name.now c.args.size _ _ c.in_default.ensures

@@ -1,7 +1,7 @@
 use Rattle.std.proofs.Common.{ap, arith}
 use Rattle.ms_object.specs.Trees.{object_or_fault}
 use Rattle.ms_tree.proofs.Named.{unread}
-use Rattle.ms_tree.proofs.gathering.read_object.Goals as goal
+use Rattle.ms_tree.proofs.looking.read_object.Goals as goal
 
 pub returns-in-Ok-clause-exact : goal.returns-in-Ok-clause-exact
 returns-in-Ok-clause-exact c = ap (object_or_fault c.args.name.now) c.in-Ok.ensures.exact.1

@@ -2,7 +2,7 @@ use Rattle.std.proofs.Common.{sym, ◌∙◌}
 use Rattle.ms_object.specs.Stores.{text_of}
 use Rattle.ms_object.specs.Trees.{blob_of}
 use Rattle.ms_tree.proofs.Named.{wanted_text, wanted_nothing}
-use Rattle.ms_tree.proofs.gathering.blob_named.Goals as goal
+use Rattle.ms_tree.proofs.looking.blob_named.Goals as goal
 
 pub returns-in-Some : goal.returns-in-Some
 returns-in-Some c =
