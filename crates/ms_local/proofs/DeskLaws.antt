@@ -15,12 +15,15 @@ use Rattle.ms_record.specs.declared.item.Item.{Item}
 use Rattle.ms_record.specs.declared.item.Item.TheVariants.{Offer, Told}
 use Rattle.ms_record.specs.declared.record.Record.{Record}
 use Rattle.ms_record.specs.declared.setting.Setting.{Setting}
+use Rattle.ms_record.specs.declared.refusal.Place.TheVariants.{Keep}
+use Rattle.ms_record.specs.declared.refusal.Refusal.{Refusal}
+use Rattle.ms_record.specs.declared.refusal.Refusal.TheVariants.{NoMemory, OutsideFault}
 use Rattle.ms_record.specs.Items.{offer_in, offers_of_items}
 use Rattle.ms_record.specs.Votes.{ballot_of}
 use Rattle.ms_local.specs.declared.deed.Deed.{Deed}
 use Rattle.ms_local.specs.declared.kept.Kept.{Kept}
-use Rattle.ms_local.specs.declared.kept.Key.{Key}
-use Rattle.ms_local.specs.declared.kept.Key.TheVariants.{State, Object}
+use Rattle.ms_record.specs.declared.key.Key.{Key}
+use Rattle.ms_record.specs.declared.key.Key.TheVariants.{State, Object}
 use Rattle.ms_local.specs.Desks.{AreWithin, DeskView, HasKeptRound, IsDesk, IsLane, KnowsTold, LanesStay, LinksStay, MayKeepRound, TellLists, round_of, with_deed}
 use Rattle.ms_local.specs.Keeping.{MayHaveState, WritesKept, state_of}
 use Rattle.ms_local.specs.Outside.{KeeperView, KeptTexts, MayBeKept, WhereTold, WorkView, Writes}
@@ -75,6 +78,10 @@ object_stays desk name text keep result h told writes =
     with_keeper desk keep h told
     (λ tells bound. object_bounds name text desk.keep.texts keep.texts (offers_told desk.pass.lists desk.client) (may_be_kept (Object name) text desk.keep keep result writes tells) bound)
 
+pub objects_stay : (desk : DeskView) (keep : KeeperView) → IsDesk desk → keep.told ≡ desk.keep.told → WhereTold keep.told (keep.texts State ≡ desk.keep.texts State) → IsDesk (record desk { keep = keep })
+objects_stay desk keep h told state =
+    with_keeper desk keep h told (λ tells bound. same_bounds (desk.keep.texts State) (keep.texts State) (offers_told desk.pass.lists desk.client) (state (told ∙ tells)) bound)
+
 -- the kept state says its round
 round_is : (text : Option (List ℕ)) (kept : Kept) → state_of text ≡ Some kept → round_of text ≡ Some kept.round
 round_is None kept e = absurd cc
@@ -96,12 +103,13 @@ state_bounds kept old new offers before is le (inr has) h =
     bound_known (round_of (new State)) kept.round offers (round_is (new State) kept has.state)
     (within_more offers before kept.round le (known_bound (round_of (old State)) before offers is h))
 
-may_have_state : (kept : Kept) (old new : KeeperView) (result : Result Unit OutsideError) → WritesKept kept old new result → WhereTold old.told (MayHaveState kept old.texts new.texts)
+may_have_state : (kept : Kept) (old new : KeeperView) (result : Result Unit Refusal) → WritesKept kept old new result → WhereTold old.told (MayHaveState kept old.texts new.texts)
 may_have_state kept old new (Ok u) h = λ told. inr (h told)
-may_have_state kept old new (Err errors.Failed) h = h.1
-may_have_state kept old new (Err errors.NoMemory) h = h
+may_have_state kept old new (Err (OutsideFault Keep)) h = h.1
+may_have_state kept old new (Err NoMemory) h = h
+may_have_state kept old new (Err error) h = absurd h
 
-pub state_stays : (desk : DeskView) (kept : Kept) (keep : KeeperView) (result : Result Unit OutsideError) → IsDesk desk → keep.told ≡ desk.keep.told → MayKeepRound desk kept.round
+pub state_stays : (desk : DeskView) (kept : Kept) (keep : KeeperView) (result : Result Unit Refusal) → IsDesk desk → keep.told ≡ desk.keep.told → MayKeepRound desk kept.round
     → WritesKept kept desk.keep keep result → IsDesk (record desk { keep = keep })
 state_stays desk kept keep result h told may writes =
     with_keeper desk keep h told

@@ -30,6 +30,7 @@ use Rattle.ms_local.specs.declared.deed.Deed.TheVariants.{KeepFailed, Kept as Ke
 use Rattle.ms_local.specs.declared.deed.Message.TheVariants.{Vote}
 use Rattle.ms_local.specs.Calls.{DeskCalls, DeskGoes, StaysTold, message_text}
 use Rattle.ms_local.specs.Desks.{DeskView, HasFault, IsDesk, LanesStay, LinksStay, OnTold, first_link, faults_at, with_deed}
+use Rattle.ms_local.specs.Laying.{TellsObjects}
 use Rattle.ms_local.specs.Truths.{IsTrueDeed, IsMissed, IsTrueSight, OwnHistory, Stores, TrueDeeds, TrueLooks, ballot_at, offers_of}
 use Rattle.ms_local.proofs.FirstLane.{lanes_on, lanes_self, links_self}
 
@@ -276,3 +277,10 @@ history_on a b c goes h k =
       own = own ∙ (ap (λ (xs : List Item). xs ++ offers_of k.deeds) h.own ∙ (append_assoc (list_at a.pass.lists (owner_of_client a.client)) (offers_of h.deeds) (offers_of k.deeds)
           ∙ ap (λ (xs : List Item). list_at a.pass.lists (owner_of_client a.client) ++ xs) (sym (offers_more h.deeds k.deeds))));
     }
+
+-- whether a service's objects are told stays
+pub tells_on : (old new : DeskView) (s : ℕ) → LanesStay old.lanes new.lanes → TellsObjects old s → TellsObjects new s
+tells_on old new s stay told lane links link at here =
+    let before = stay.each lane links at in
+    let was = before.2.each s link here in
+    ap (λ (l : LinkView). l.objects) was.2.same ∙ told lane before.0 was.0 before.1 was.1

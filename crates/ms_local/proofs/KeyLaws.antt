@@ -7,8 +7,8 @@ use Rattle.std.proofs.lemmas.Slice.Eq.{bytes_eq-Decides}
 use Rattle.std.proofs.lemmas.Map.Text.{is_eq-slice_cmp}
 use Rattle.ms_base.specs.declared.names.Name.{Name}
 use Rattle.ms_object.specs.Stores.{text_of}
-use Rattle.ms_local.specs.declared.kept.Key.{Key}
-use Rattle.ms_local.specs.declared.kept.Key.TheVariants.{State, Object}
+use Rattle.ms_record.specs.declared.key.Key.{Key}
+use Rattle.ms_record.specs.declared.key.Key.TheVariants.{State, Object}
 use Rattle.ms_local.specs.Outside.{IsKept}
 use Rattle.ms_local.specs.Memory.{texts_by}
 

@@ -1,8 +1,9 @@
 mod StateLaws
 mod Appending
 mod KeyLaws
-mod KeepingLaws
+mod KeepingObjects
 mod DeskLaws
 mod Showing
 mod FirstLane
 mod GoingOn
+mod ObjectDeeds

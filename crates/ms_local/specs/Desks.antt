@@ -15,7 +15,7 @@ use Rattle.ms_record.specs.Votes.{ballot_of}
 use Rattle.ms_local.specs.declared.deed.Deed.{Deed}
 use Rattle.ms_local.specs.declared.desk.Desk.{Desk}
 use Rattle.ms_local.specs.declared.desk.Lane.{Lane}
-use Rattle.ms_local.specs.declared.kept.Key.TheVariants.{State}
+use Rattle.ms_record.specs.declared.key.Key.TheVariants.{State}
 use Rattle.ms_local.specs.Outside.{KeeperView, WorkView, WhereTold}
 use Rattle.ms_local.specs.States.{kept_at}
 

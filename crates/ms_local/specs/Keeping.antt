@@ -5,10 +5,11 @@ use Rattle.ms_base.specs.declared.limits.TheConstants.{LAST_NUMBER}
 use Rattle.ms_base.specs.declared.names.Name.{Name}
 use Rattle.ms_base.specs.declared.outside.OutsideError.{OutsideError}
 use Rattle.ms_base.specs.declared.outside.OutsideError.TheVariants as errors
-use Rattle.ms_local.specs.declared.keeping.KeptError.{KeptError}
-use Rattle.ms_local.specs.declared.keeping.KeptError.TheVariants as kept_errors
 use Rattle.ms_local.specs.declared.kept.Kept.{Kept}
-use Rattle.ms_local.specs.declared.kept.Key.TheVariants.{State, Object}
+use Rattle.ms_record.specs.declared.key.Key.TheVariants.{State, Object}
+use Rattle.ms_record.specs.declared.refusal.Place.TheVariants.{Keep}
+use Rattle.ms_record.specs.declared.refusal.Refusal.{Refusal}
+use Rattle.ms_record.specs.declared.refusal.Refusal.TheVariants.{LocalDamaged, NoMemory, OutsideFault}
 use Rattle.ms_local.specs.Outside.{KeeperView, KeptTexts, WhereTold}
 use Rattle.ms_local.specs.States.{kept_at}
 
@@ -27,19 +28,19 @@ state_of (Some text) = kept_at text
 abbrev pub state_in : KeptTexts → Option Kept
 state_in texts = state_of (texts State)
 
--- the kept state; or it is damaged
-abbrev pub ReadsKept : KeeperView → KeeperView → Result Kept KeptError → Type 0
+-- the kept state; or it is damaged; no other refusal comes
+abbrev pub ReadsKept : KeeperView → KeeperView → Result Kept Refusal → Type 0
 ReadsKept old new (Ok kept) = WhereTold old.told (state_in old.texts ≡ Some kept)
-ReadsKept old new (Err (kept_errors.Damaged key)) = (key ≡ State) × WhereTold old.told (state_in old.texts ≡ None)
-ReadsKept old new (Err kept_errors.Failed) = Rose old.faults new.faults
-ReadsKept old new (Err kept_errors.NoMemory) = Unit {0}
+ReadsKept old new (Err (LocalDamaged key)) = (key ≡ State) × WhereTold old.told (state_in old.texts ≡ None)
+ReadsKept old new (Err (OutsideFault Keep)) = Rose old.faults new.faults
+ReadsKept old new (Err NoMemory) = Unit {0}
+ReadsKept old new (Err error) = ⊥
 
 -- the count of faults is as before after each answer but a failure
-abbrev pub IsKeptSteady : ℕ → ℕ → Result Kept KeptError → Type 0
-IsKeptSteady before now (Err kept_errors.Failed) = Unit {0}
-IsKeptSteady before now (Err kept_errors.NoMemory) = now ≡ before
-IsKeptSteady before now (Err (kept_errors.Damaged key)) = now ≡ before
-IsKeptSteady before now (Ok kept) = now ≡ before
+abbrev pub IsKeptSteady : {X : Type 0} → ℕ → ℕ → Result X Refusal → Type 0
+IsKeptSteady before now (Err (OutsideFault place)) = Unit {0}
+IsKeptSteady before now (Err error) = now ≡ before
+IsKeptSteady before now (Ok x) = now ≡ before
 
 -- the state is this one, and the objects are as before
 pub record HasState (kept : Kept) (old new : KeptTexts) : Type 0 where
@@ -50,7 +51,9 @@ pub record HasState (kept : Kept) (old new : KeptTexts) : Type 0 where
 abbrev pub MayHaveState : Kept → KeptTexts → KeptTexts → Type 0
 MayHaveState kept old new = (new ≡ old) ⊎ HasState kept old new
 
-abbrev pub WritesKept : Kept → KeeperView → KeeperView → Result Unit OutsideError → Type 0
+-- the state is kept, and no other refusal comes
+abbrev pub WritesKept : Kept → KeeperView → KeeperView → Result Unit Refusal → Type 0
 WritesKept kept old new (Ok _) = WhereTold old.told (HasState kept old.texts new.texts)
-WritesKept kept old new (Err errors.Failed) = Rose old.faults new.faults × WhereTold old.told (MayHaveState kept old.texts new.texts)
-WritesKept kept old new (Err errors.NoMemory) = WhereTold old.told (MayHaveState kept old.texts new.texts)
+WritesKept kept old new (Err (OutsideFault Keep)) = Rose old.faults new.faults × WhereTold old.told (MayHaveState kept old.texts new.texts)
+WritesKept kept old new (Err NoMemory) = WhereTold old.told (MayHaveState kept old.texts new.texts)
+WritesKept kept old new (Err error) = ⊥

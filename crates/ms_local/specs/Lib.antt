@@ -2,11 +2,14 @@ pub mod States
 pub mod Outside
 pub mod Memory
 pub mod Keeping
+pub mod KeptObjects
 pub mod Rules
 pub mod Placing
+pub mod Reading
 pub mod Desks
 pub mod Calls
 pub mod ObjectCalls
 pub mod Learning
 pub mod Running
 pub mod Truths
+pub mod Laying

@@ -3,7 +3,7 @@ use Rattle.std.specs.Prelude.{ℕ, true, List, Option}
 use Rattle.ms_base.specs.Memory.{Calls}
 use Rattle.ms_object.specs.Stores.{StoreView, text_of}
 use Rattle.ms_tree.specs.Files.{FileList}
-use Rattle.ms_local.specs.declared.kept.Key.TheVariants.{State, Object}
+use Rattle.ms_record.specs.declared.key.Key.TheVariants.{State, Object}
 use Rattle.ms_local.specs.Outside.{KeeperView, KeptTexts, WorkView}
 
 -- the text of the state, where there is one, and those of objects

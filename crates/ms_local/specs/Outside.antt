@@ -7,7 +7,7 @@ use Rattle.ms_tree.specs.declared.limits.FilesError.{FilesError}
 use Rattle.ms_tree.specs.declared.limits.FilesError.TheVariants as file_errors
 use Rattle.ms_tree.specs.Files.{FileList, IsFiles, added, with_file, without}
 use Rattle.ms_tree.specs.Limits.{on_ok}
-use Rattle.ms_local.specs.declared.kept.Key.{Key}
+use Rattle.ms_record.specs.declared.key.Key.{Key}
 use Rattle.ms_local.specs.declared.outside.WorkError.{WorkError}
 use Rattle.ms_local.specs.declared.outside.WorkError.TheVariants as work_errors
 

@@ -10,6 +10,7 @@ ghost use Rattle.ms_local.specs.declared.deed.Deed.{Deed};
 ghost use Rattle.ms_local.specs.declared.deed.Deed.TheVariants as deed;
 ghost use Rattle.ms_local.specs.Calls.{DeskCalls, DeskGoes, StaysTold};
 ghost use Rattle.ms_local.specs.Desks.{DeskView, HasFault, IsDesk, faults_at, with_deed};
+ghost use Rattle.ms_local.specs.Laying.{IsObjectDeed, Lays, TellsObjects};
 ghost use Rattle.ms_local.specs.Truths.{IsTrueDeed, OwnHistory, TrueDeeds, TrueLooks, offers_of};
 ghost use Rattle.ms_local.specs.Rules.{Bidding, Did, HasRun, Intent, IsDecided, Run, ShowsIn, Step, begun_at, bid_begun, done, promised_by, taken_by};
 
@@ -62,6 +63,8 @@ pub fn desks_go_on()
     ensures told { (old new : DeskView) → IsClosed new.pass.lists → DeskGoes old new → StaysTold old new }
     ensures events { (old new : DeskView) (service : ℕ) (event : LogEvent) → DeskGoes old new → Contains (log_in old.pass.lists service) event → Contains (log_in new.pass.lists service) event }
     ensures faults { (old new : DeskView) (service : ℕ) → DeskGoes old new → faults_at old service ≤ faults_at new service }
+    // Whether a service's objects are told stays.
+    ensures tells { (old new : DeskView) (s : ℕ) → DeskGoes old new → TellsObjects old s → TellsObjects new s }
     // A fault between two moments is one between an earlier and a later one.
     ensures wider { (old low high new : DeskView) (service : ℕ) → DeskGoes old low → DeskGoes high new → HasFault low high service → HasFault old new service }
 {
@@ -81,3 +84,15 @@ pub fn truths_go_on()
     // Calls tell nothing in the own list.
     ensures own_called { (old new : DeskView) (deeds : List Deed) → IsDesk old → DeskGoes old new → new.deeds ≡ old.deeds ++ deeds → offers_of deeds ≡ [] → OwnHistory old new }
 {}
+
+/// Nothing is laid by nothing; deeds on objects go on from call to call; a call lays its deed, if it is true.
+pub fn desks_lay()
+    ensures nothing { (desk : DeskView) → IsDesk desk → Lays desk desk [] }
+    ensures on { (old mid new : DeskView) (deeds more : List Deed) → Lays old mid deeds → Lays mid new more → Lays old new (deeds ++ more) }
+    ensures called { (service : ℕ) (old new : DeskView) → IsDesk old → IsDesk new → IsClosed new.pass.lists → DeskCalls service old new → Lays old new [] }
+    ensures noted { (service : ℕ) (old new : DeskView) (deed : Deed) → IsDesk old → IsDesk new → IsClosed new.pass.lists → DeskCalls service (with_deed old deed) new
+        → IsObjectDeed deed → IsTrueDeed old new deed → Lays old new (deed ∷ []) }
+{
+    desks_go_on();
+    truths_go_on();
+}

@@ -10,14 +10,15 @@ ghost use Rattle.ms_link.specs.Links.{IsOnBoard, Learns, LinkView};
 ghost use Rattle.ms_record.specs.declared.item.Item.{Item};
 ghost use Rattle.ms_record.specs.declared.item.Item.TheVariants.{Offer};
 ghost use Rattle.ms_record.specs.declared.record.Record.{Record};
+ghost use Rattle.ms_record.specs.declared.refusal.Refusal.{Refusal};
 ghost use Rattle.ms_record.specs.declared.setting.Setting.{Setting};
 ghost use Rattle.ms_record.specs.Votes.{ballot_of};
 ghost use Rattle.ms_local.specs.declared.deed.Deed.{Deed};
 ghost use Rattle.ms_local.specs.declared.kept.Kept.{Kept};
-ghost use Rattle.ms_local.specs.declared.kept.Key.TheVariants.{Object};
+ghost use Rattle.ms_record.specs.declared.key.Key.TheVariants.{Object, State};
 ghost use Rattle.ms_local.specs.Desks.{DeskView, HasKeptRound, IsDesk, KnowsTold, LanesStay, MayKeepRound, with_deed};
 ghost use Rattle.ms_local.specs.Keeping.{WritesKept};
-ghost use Rattle.ms_local.specs.Outside.{KeeperView, WorkView, Writes};
+ghost use Rattle.ms_local.specs.Outside.{KeeperView, WhereTold, WorkView, Writes};
 
 use ms_core::item_law::configuration_stays;
 
@@ -35,8 +36,11 @@ pub fn desks_stay()
     // An object is kept.
     ensures object { (desk : DeskView) (name : Name) (text : List ℕ) (keep : KeeperView) (result : Result Unit OutsideError) → IsDesk desk → keep.told ≡ desk.keep.told
         → Writes (Object name) text desk.keep keep result → IsDesk (record desk { keep = keep }) }
+    // Objects are kept.
+    ensures objects { (desk : DeskView) (keep : KeeperView) → IsDesk desk → keep.told ≡ desk.keep.told → WhereTold keep.told (keep.texts State ≡ desk.keep.texts State)
+        → IsDesk (record desk { keep = keep }) }
     // A state is kept whose round is not below the one that was kept.
-    ensures state { (desk : DeskView) (kept : Kept) (keep : KeeperView) (result : Result Unit OutsideError) → IsDesk desk → keep.told ≡ desk.keep.told → MayKeepRound desk kept.round
+    ensures state { (desk : DeskView) (kept : Kept) (keep : KeeperView) (result : Result Unit Refusal) → IsDesk desk → keep.told ≡ desk.keep.told → MayKeepRound desk kept.round
         → WritesKept kept desk.keep keep result → IsDesk (record desk { keep = keep }) }
     // An offer is told whose round is kept.
     ensures offer { (desk : DeskView) (offer : Record) → IsDesk desk → HasKeptRound desk (ballot_of offer).round

@@ -2,27 +2,19 @@
 
 ghost use Rattle.std.specs.Prelude.{◌≡◌, ◌≤◌, IfOk, IfSome, length};
 ghost use Rattle.ms_local.specs.Keeping.{HasRanges, IsKeptSteady, ReadsKept, WritesKept};
-ghost use Rattle.ms_local.specs.Outside.{IsSteady};
 ghost use Rattle.ms_local.specs.States.{IsBase, IsState, IsTodo};
 
-use crate::kept::{Base, Kept, Key};
+use crate::kept::{Base, Kept};
 use crate::outside::Keeper;
 use crate::spelling::{kept_laws, parse_kept, push_kept};
 use ms_base::limits::LAST_NUMBER;
 use ms_base::{Name, OutsideError};
+use ms_record::{Key, Place, Refusal};
 use std::alloc::Global;
 
-/// Why a kept text was not read. The text of the key is absent, or not what it has to be; or the keeper failed, and its count of
-/// faults rose; or memory ran out.
-#[derive(Clone, Copy, Debug, PartialEq, Eq)]
-pub enum KeptError {
-    Damaged { key: Key },
-    Failed,
-    NoMemory,
-}
-
-/// The kept state. `Damaged` exactly where the text of the state, an absent one as empty, is not of the grammar.
-pub fn read_kept<K: Keeper>(alloc: Global, keep: &mut K) -> Result<Kept, KeptError>
+/// The kept state: `docs/FORMATS.md`, the kept state. `LocalDamaged` of the state exactly where its text, an absent one as empty, is not
+/// of the grammar; `OutsideFault` of the keeper where its count of faults rose.
+pub fn read_kept<K: Keeper>(alloc: Global, keep: &mut K) -> Result<Kept, Refusal>
     ensures reads { ReadsKept (K.sees keep.old) (K.sees keep.new) result }
     ensures ranges { IfOk result IsState }
     ensures same { K.sees keep.new ≡ record (K.sees keep.old) { faults = (K.sees keep.new).faults } }
@@ -32,11 +24,11 @@ pub fn read_kept<K: Keeper>(alloc: Global, keep: &mut K) -> Result<Kept, KeptErr
     match keep.read(alloc, &Key::State) {
         Ok(Some(text)) => match parse_kept(text.as_slice()) {
             Some(kept) => Ok(kept),
-            None => Err(KeptError::Damaged { key: Key::State }),
+            None => Err(Refusal::LocalDamaged { key: Key::State }),
         },
-        Ok(None) => Err(KeptError::Damaged { key: Key::State }),
-        Err(OutsideError::Failed) => Err(KeptError::Failed),
-        Err(OutsideError::NoMemory) => Err(KeptError::NoMemory),
+        Ok(None) => Err(Refusal::LocalDamaged { key: Key::State }),
+        Err(OutsideError::Failed) => Err(Refusal::OutsideFault { place: Place::Keep }),
+        Err(OutsideError::NoMemory) => Err(Refusal::NoMemory),
     }
 }
 
@@ -76,17 +68,21 @@ fn shows_state(kept: &Kept)
     shows_todo(kept);
 }
 
-/// Keeps the state, whole or not at all. `Failed` where the count of faults rose.
-pub fn write_kept<K: Keeper>(alloc: Global, keep: &mut K, kept: &Kept) -> Result<(), OutsideError>
+/// Keeps the state, whole or not at all. `OutsideFault` of the keeper where its count of faults rose.
+pub fn write_kept<K: Keeper>(alloc: Global, keep: &mut K, kept: &Kept) -> Result<(), Refusal>
     requires { HasRanges kept.now }
     ensures writes { WritesKept kept.now (K.sees keep.old) (K.sees keep.new) result }
     ensures told { (K.sees keep.new).told ≡ (K.sees keep.old).told }
     ensures later { (K.sees keep.old).faults ≤ (K.sees keep.new).faults }
-    ensures steady { IsSteady (K.sees keep.old).faults (K.sees keep.new).faults result }
+    ensures steady { IsKeptSteady (K.sees keep.old).faults (K.sees keep.new).faults result }
 {
     kept_laws();
     shows_state(kept);
     let mut text = Vec::new(alloc);
     push_kept(&mut text, kept)?;
-    keep.write(alloc, &Key::State, text.as_slice())
+    match keep.write(alloc, &Key::State, text.as_slice()) {
+        Ok(()) => Ok(()),
+        Err(OutsideError::Failed) => Err(Refusal::OutsideFault { place: Place::Keep }),
+        Err(OutsideError::NoMemory) => Err(Refusal::NoMemory),
+    }
 }

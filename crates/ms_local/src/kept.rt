@@ -2,15 +2,6 @@
 
 use ms_base::Name;
 
-/// What a text is kept under.
-#[derive(Clone, Copy, Debug, PartialEq, Eq)]
-pub enum Key {
-    /// The state.
-    State,
-    /// An object, by the SHA-256 of its bytes.
-    Object { name: Name },
-}
-
 /// A member of the chain, from 0 to 4,294,967,294: where it stands, its name, and its version.
 #[derive(Clone, Copy, Debug, PartialEq, Eq)]
 pub struct Base {

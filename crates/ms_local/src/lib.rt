@@ -8,6 +8,7 @@ pub mod desk;
 pub mod desk_law;
 pub mod keeping;
 pub mod kept;
+pub mod kept_objects;
 pub mod learner;
 pub mod memory;
 pub mod objects;
@@ -16,11 +17,12 @@ pub mod spelling;
 
 pub use calling::{append_noted, append_text, list_noted, list_texts};
 pub use deed::{Deed, Deeds, Message};
-pub use deed_law::{deeds_compose, deeds_go_on, deeds_show, desks_go_on, truths_go_on};
+pub use deed_law::{deeds_compose, deeds_go_on, deeds_show, desks_go_on, desks_lay, truths_go_on};
 pub use desk::{Desk, Lane, begin_line};
 pub use desk_law::{desks_lead, desks_stay, tellings_stay};
-pub use keeping::{KeptError, read_kept, write_kept};
-pub use kept::{Base, Kept, Key, Todo};
+pub use keeping::{read_kept, write_kept};
+pub use kept::{Base, Kept, Todo};
+pub use kept_objects::{keep_objects, kept_object};
 pub use learner::{Learner, Learnt};
 pub use memory::{MemoryKeeper, MemoryWork};
 pub use objects::{

@@ -8,9 +8,9 @@ ghost use Rattle.ms_local.specs.Memory.{keeper_of, texts_by, work_of};
 ghost use Rattle.ms_local.specs.Outside.{IsScanSteady, IsSteady, MayPlace, Places, Reads, Removes, Scans, Writes};
 ghost use Rattle.ms_local.specs.declared.outside.WorkError.TheVariants as work_errors;
 
-use crate::kept::Key;
 use crate::outside::{Keeper, Work, WorkError};
 use ms_base::{Bytes, Name, NoMemory, OutsideError, Script};
+use ms_record::Key;
 use ms_tree::Files;
 use std::alloc::Global;
 use std::collections::BTreeMap;

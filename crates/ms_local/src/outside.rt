@@ -3,8 +3,8 @@
 ghost use Rattle.std.specs.Prelude.{◌≡◌, ◌≤◌};
 ghost use Rattle.ms_local.specs.Outside.{KeeperView, WorkView, IsScanSteady, IsSteady, Reads, Writes, Scans, Places, Removes, MayPlace};
 
-use crate::kept::Key;
 use ms_base::{Bytes, OutsideError, Quantity};
+use ms_record::Key;
 use ms_tree::Files;
 use std::alloc::Global;
 

@@ -1,10 +1,12 @@
 //! States whose texts were known before, and keepers and folders in memory, some of whose calls fail.
 
 use crate::{
-    Base, Keeper, Kept, KeptError, Key, MemoryKeeper, MemoryWork, Todo, Work, kept_laws,
+    Base, Keeper, Kept, MemoryKeeper, MemoryWork, Todo, Work, keep_objects, kept_laws, kept_object,
     parse_kept, push_kept, read_kept, write_kept,
 };
-use ms_base::Name;
+use ms_base::{Bytes, Name};
+use ms_object::Store;
+use ms_record::{Key, Refusal};
 use ms_tree::Files;
 use std::alloc::Global;
 use std::test::*;
@@ -126,7 +128,7 @@ fn is_damaged(alloc: Global, text: &[u8]) -> bool {
         return false;
     }
     let error = read_kept(alloc, &mut keep);
-    matches!(error, Err(KeptError::Damaged { key: Key::State })) && keep.faults() == 0
+    matches!(error, Err(Refusal::LocalDamaged { key: Key::State })) && keep.faults() == 0
 }
 
 #[test]
@@ -141,7 +143,7 @@ fn is_absent_damaged(alloc: Global) -> bool {
     let mut keep = MemoryKeeper::new(alloc, Vec::new(alloc));
     matches!(
         read_kept(alloc, &mut keep),
-        Err(KeptError::Damaged { key: Key::State })
+        Err(Refusal::LocalDamaged { key: Key::State })
     )
 }
 
@@ -150,24 +152,105 @@ fn an_absent_state(rt: HostRuntime) {
     assert!(rt; is_absent_damaged(rt.alloc()));
 }
 
-/// Whether an object is kept under its name, beside the state.
-fn keeps_an_object(alloc: Global) -> bool {
-    let key = Key::Object {
-        name: Name([b'h'; 32]),
-    };
-    let mut keep = MemoryKeeper::new(alloc, Vec::new(alloc));
-    if keep.write(alloc, &key, b"B").is_err() {
-        return false;
+/// The SHA-256 of "abc" and of nothing: FIPS 180-4, examples.
+const ABC: Name = Name([
+    0xba, 0x78, 0x16, 0xbf, 0x8f, 0x01, 0xcf, 0xea, 0x41, 0x41, 0x40, 0xde, 0x5d, 0xae, 0x22, 0x23,
+    0xb0, 0x03, 0x61, 0xa3, 0x96, 0x17, 0x7a, 0x9c, 0xb4, 0x10, 0xff, 0x61, 0xf2, 0x00, 0x15, 0xad,
+]);
+
+const NOTHING: Name = Name([
+    0xe3, 0xb0, 0xc4, 0x42, 0x98, 0xfc, 0x1c, 0x14, 0x9a, 0xfb, 0xf4, 0xc8, 0x99, 0x6f, 0xb9, 0x24,
+    0x27, 0xae, 0x41, 0xe4, 0x64, 0x9b, 0x93, 0x4c, 0xa4, 0x95, 0x99, 0x1b, 0x78, 0x52, 0xb8, 0x55,
+]);
+
+/// A store of "abc" and of nothing.
+fn two_objects(alloc: Global) -> Option<Store> {
+    let mut objects = Store::new(alloc);
+    objects.add(Bytes::of(alloc, b"abc").ok()?).ok()?;
+    objects.add(Bytes::of(alloc, b"").ok()?).ok()?;
+    Some(objects)
+}
+
+/// Whether the keeper says that both objects are kept.
+fn keeps_two(alloc: Global, keep: &mut MemoryKeeper) -> bool {
+    match two_objects(alloc) {
+        Some(objects) => keep_objects(alloc, keep, &objects).is_ok(),
+        None => false,
     }
-    match keep.read(alloc, &key) {
-        Ok(Some(text)) => text.as_slice() == b"B".as_slice(),
+}
+
+/// Whether the keeper gives this text as the object of the name.
+fn gives(alloc: Global, keep: &mut MemoryKeeper, name: &Name, text: &[u8]) -> bool {
+    match kept_object(alloc, keep, name) {
+        Ok(found) => found.as_slice() == text,
+        Err(_) => false,
+    }
+}
+
+/// Whether the keeper says that the object of the name is damaged.
+fn is_object_damaged(alloc: Global, keep: &mut MemoryKeeper, name: &Name) -> bool {
+    match kept_object(alloc, keep, name) {
+        Err(
+            Refusal::LocalDamaged {
+                key: Key::Object { name: damaged },
+            },
+        ) => damaged == *name,
         _ => false,
     }
 }
 
+/// Whether two objects are kept and read again.
+fn keeps_and_gives_two(alloc: Global) -> bool {
+    let mut keep = MemoryKeeper::new(alloc, Vec::new(alloc));
+    keeps_two(alloc, &mut keep)
+        && gives(alloc, &mut keep, &ABC, b"abc")
+        && gives(alloc, &mut keep, &NOTHING, b"")
+}
+
 #[test]
-fn an_object_is_kept(rt: HostRuntime) {
-    assert!(rt; keeps_an_object(rt.alloc()));
+fn objects_are_kept(rt: HostRuntime) {
+    assert!(rt; keeps_and_gives_two(rt.alloc()));
+}
+
+/// Whether the object whose name is less is kept where the second write fails, and the other not.
+fn keeps_the_first(alloc: Global) -> bool {
+    let Ok(fails) = Vec::from_slice(alloc, &[1]) else {
+        return false;
+    };
+    let mut keep = MemoryKeeper::new(alloc, fails);
+    !keeps_two(alloc, &mut keep)
+        && gives(alloc, &mut keep, &ABC, b"abc")
+        && is_object_damaged(alloc, &mut keep, &NOTHING)
+}
+
+#[test]
+fn a_write_that_fails_half_way(rt: HostRuntime) {
+    assert!(rt; keeps_the_first(rt.alloc()));
+}
+
+#[test]
+fn a_lost_object(rt: HostRuntime) {
+    let mut keep = MemoryKeeper::new(rt.alloc(), Vec::new(rt.alloc()));
+    assert!(rt; is_object_damaged(rt.alloc(), &mut keep, &ABC));
+}
+
+/// Whether an object is damaged whose key has another text, and mended where it is kept again.
+fn mends(alloc: Global) -> bool {
+    let mut keep = MemoryKeeper::new(alloc, Vec::new(alloc));
+    if keep
+        .write(alloc, &Key::Object { name: ABC }, b"abd")
+        .is_err()
+    {
+        return false;
+    }
+    is_object_damaged(alloc, &mut keep, &ABC)
+        && keeps_two(alloc, &mut keep)
+        && gives(alloc, &mut keep, &ABC, b"abc")
+}
+
+#[test]
+fn an_altered_object(rt: HostRuntime) {
+    assert!(rt; mends(rt.alloc()));
 }
 
 /// How many files an empty folder shows once a file was taken away that was not there, where it is scanned.

@@ -5,8 +5,6 @@ use Rattle.std.proofs.lemmas.List.Elements.{Contains-append_right, filter_map-ap
 use Rattle.ms_base.specs.Counts.{Rose}
 use Rattle.ms_base.specs.declared.names.Name.{Name}
 use Rattle.ms_base.specs.declared.names.ServiceId.{ServiceId}
-use Rattle.ms_base.specs.declared.outside.OutsideError.{OutsideError}
-use Rattle.ms_base.specs.declared.outside.OutsideError.TheVariants as errors
 use Rattle.ms_bid.specs.declared.act.Act.{Act}
 use Rattle.ms_bid.specs.declared.act.Act.TheVariants.{Keep, Send, Look, Declare, End}
 use Rattle.ms_bid.specs.declared.act.Answer.TheVariants.{Kept as KeptAnswer, Sent, Seen, Declared, Failed}
@@ -28,6 +26,9 @@ use Rattle.ms_record.specs.declared.record.Record.{Record}
 use Rattle.ms_record.specs.declared.record.Record.TheVariants.{Prepare, Accept}
 use Rattle.ms_record.specs.Votes.{ballot_of}
 use Rattle.ms_record.specs.declared.setting.Setting.{Setting}
+use Rattle.ms_record.specs.declared.refusal.Place.TheVariants as places
+use Rattle.ms_record.specs.declared.refusal.Refusal.{Refusal}
+use Rattle.ms_record.specs.declared.refusal.Refusal.TheVariants as refusals
 use Rattle.ms_record.specs.declared.sight.Sight.{Sight}
 use Rattle.ms_record.specs.Items.{event_in, events_of}
 use Rattle.ms_record.specs.Logs.{texts_in, vote_texts}
@@ -36,7 +37,7 @@ use Rattle.ms_record.specs.Records.{record_text}
 use Rattle.ms_record.specs.Sights.{IsSight}
 use Rattle.ms_local.specs.declared.deed.Deed.{Deed}
 use Rattle.ms_local.specs.declared.kept.Kept.{Kept}
-use Rattle.ms_local.specs.declared.kept.Key.TheVariants.{Object}
+use Rattle.ms_record.specs.declared.key.Key.TheVariants.{Object}
 use Rattle.ms_local.specs.Desks.{DeskView, HasKeptRound, IsDesk, KnowsTold, with_deed}
 use Rattle.ms_local.specs.Keeping.{MayHaveState, WritesKept}
 use Rattle.ms_local.specs.Outside.{KeeperView, WhereTold}
@@ -171,13 +172,14 @@ may_objects : (kept : Kept) (old new : KeeperView) (name : Name) → MayHaveStat
 may_objects kept old new name (inl same) = ap (λ texts. texts (Object name)) same
 may_objects kept old new name (inr h) = h.objects name
 
-objects_of : (kept : Kept) (old new : KeeperView) (r : Result Unit OutsideError) → WritesKept kept old new r → WhereTold old.told ((name : Name) → new.texts (Object name) ≡ old.texts (Object name))
+objects_of : (kept : Kept) (old new : KeeperView) (r : Result Unit Refusal) → WritesKept kept old new r → WhereTold old.told ((name : Name) → new.texts (Object name) ≡ old.texts (Object name))
 objects_of kept old new (Ok u) w told name = (w told).objects name
-objects_of kept old new (Err errors.Failed) w told name = may_objects kept old new name (w.1 told)
-objects_of kept old new (Err errors.NoMemory) w told name = may_objects kept old new name (w told)
+objects_of kept old new (Err (refusals.OutsideFault places.Keep)) w told name = may_objects kept old new name (w.1 told)
+objects_of kept old new (Err refusals.NoMemory) w told name = may_objects kept old new name (w told)
+objects_of kept old new (Err error) w told name = absurd w
 
 module _ (old : DeskView) (keep : KeeperView) (after : List Deed) (kept : Kept) (round : ℕ) (told : keep.told ≡ old.keep.told) (later : old.keep.faults ≤ keep.faults) where
-  keep_goes : (r : Result Unit OutsideError) → WritesKept (with_round kept round) old.keep keep r → DeskBids old (record old { keep = keep; deeds = after })
+  keep_goes : (r : Result Unit Refusal) → WritesKept (with_round kept round) old.keep keep r → DeskBids old (record old { keep = keep; deeds = after })
   keep_goes r w = record {
     same = refl;
     board = refl;
@@ -192,12 +194,12 @@ module _ (old : DeskView) (keep : KeeperView) (after : List Deed) (kept : Kept) 
       → DoesAct aim (Keep round) KeptAnswer old (record old { keep = keep; deeds = after }) kept (with_round kept round)
   keep_ok aim u is w = record { fits_it = refl; deed = is; round = refl; goes = keep_goes (Ok u) w; leaves = (refl, w) }
 
-  pub keep_failed : (aim : Aim) → after ≡ old.deeds ++ deed_of (Keep round) Failed ∷ [] → WritesKept (with_round kept round) old.keep keep (Err errors.Failed)
+  pub keep_failed : (aim : Aim) → after ≡ old.deeds ++ deed_of (Keep round) Failed ∷ [] → WritesKept (with_round kept round) old.keep keep (Err (refusals.OutsideFault places.Keep))
       → DoesAct aim (Keep round) Failed old (record old { keep = keep; deeds = after }) kept kept
-  keep_failed aim is w = record { fits_it = refl; deed = is; round = refl; goes = keep_goes (Err errors.Failed) w; leaves = (refl, w.0, w.1) }
+  keep_failed aim is w = record { fits_it = refl; deed = is; round = refl; goes = keep_goes (Err (refusals.OutsideFault places.Keep)) w; leaves = (refl, w.0, w.1) }
 
-  pub keep_halts : after ≡ old.deeds → WritesKept (with_round kept round) old.keep keep (Err errors.NoMemory) → Halts (Keep round) old (record old { keep = keep; deeds = after }) kept kept
-  keep_halts is w = record { deed = is; round = refl; goes = keep_goes (Err errors.NoMemory) w; pass = learns_self old.pass; keep = w }
+  pub keep_halts : after ≡ old.deeds → WritesKept (with_round kept round) old.keep keep (Err refusals.NoMemory) → Halts (Keep round) old (record old { keep = keep; deeds = after }) kept kept
+  keep_halts is w = record { deed = is; round = refl; goes = keep_goes (Err refusals.NoMemory) w; pass = learns_self old.pass; keep = w }
 
 -- ---- the own list
 

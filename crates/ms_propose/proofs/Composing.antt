@@ -29,7 +29,7 @@ use Rattle.ms_local.specs.declared.deed.Deed.TheVariants as deeds
 use Rattle.ms_local.specs.declared.deed.Deed.TheVariants.{KeepFailed, Kept as KeptDeed, StateKept, Appended, Declared, Looked, Listed}
 use Rattle.ms_local.specs.declared.deed.Message.TheVariants.{Vote}
 use Rattle.ms_local.specs.declared.kept.Kept.{Kept}
-use Rattle.ms_local.specs.declared.kept.Key.TheVariants.{State}
+use Rattle.ms_record.specs.declared.key.Key.TheVariants.{State}
 use Rattle.ms_local.specs.Desks.{DeskView, HasFault, HasKeptRound, IsDesk, KnowsTold, LanesStay, LinksStay, OnTold, first_link, faults_at, round_of}
 use Rattle.ms_local.specs.Keeping.{HasRanges, state_of}
 use Rattle.ms_local.specs.Outside.{KeeperView, WhereTold}

@@ -12,7 +12,7 @@ use Rattle.ms_record.specs.declared.record.Record.TheVariants.{Accept}
 use Rattle.ms_record.specs.declared.setting.Setting.{Setting}
 use Rattle.ms_record.specs.Records.{IsBallot}
 use Rattle.ms_local.specs.declared.kept.Kept.{Kept}
-use Rattle.ms_local.specs.declared.kept.Key.TheVariants.{State}
+use Rattle.ms_record.specs.declared.key.Key.TheVariants.{State}
 use Rattle.ms_local.specs.Desks.{AreWithin, DeskView, HasKeptRound, IsDesk, KnowsTold, MayKeepRound, round_of}
 use Rattle.ms_local.specs.Keeping.{HasRanges, MayHaveState, state_in}
 use Rattle.ms_local.specs.Outside.{KeeperView, KeptTexts, WhereTold}

@@ -3,7 +3,7 @@ use Rattle.std.specs.Prelude.{◌≡◌, ◌≤◌}
 use Rattle.ms_base.specs.declared.names.Name.{Name}
 use Rattle.ms_ken.specs.Lists.{Begins}
 use Rattle.ms_record.specs.declared.setting.Setting.{Setting}
-use Rattle.ms_local.specs.declared.kept.Key.TheVariants.{Object}
+use Rattle.ms_record.specs.declared.key.Key.TheVariants.{Object}
 use Rattle.ms_local.specs.Desks.{DeskView, KnowsTold, LanesStay}
 use Rattle.ms_local.specs.Outside.{KeeperView, WhereTold}
 

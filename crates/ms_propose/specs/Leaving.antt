@@ -12,7 +12,7 @@ use Rattle.ms_record.specs.Votes.{ChosenBy}
 use Rattle.ms_local.specs.declared.kept.Kept.{Kept}
 use Rattle.ms_local.specs.declared.deed.Deed.{Deed}
 use Rattle.ms_local.specs.declared.deed.Deed.TheVariants.{Kept as KeptDeed, Appended, Declared, Looked}
-use Rattle.ms_local.specs.declared.kept.Key.TheVariants.{State}
+use Rattle.ms_record.specs.declared.key.Key.TheVariants.{State}
 use Rattle.ms_local.specs.Desks.{DeskView, HasKeptRound, OnTold, OnTold', round_of}
 use Rattle.ms_local.specs.Keeping.{HasRanges}
 use Rattle.ms_propose.specs.Acts.{with_round}

@@ -8,7 +8,7 @@ ghost use Rattle.ms_local.specs.Keeping.{HasRanges};
 ghost use Rattle.ms_local.specs.Rules.{shown_round};
 ghost use Rattle.ms_propose.specs.Acts.{Acts, MayDo};
 
-use ms_base::{Gate, NoMemory, OutsideError, Point, ServiceId};
+use ms_base::{Gate, NoMemory, Point, ServiceId};
 use ms_bid::{Act, Answer};
 use ms_core::FoldClosed;
 use ms_core::item_law::{configuration_stays, declare as offers_follow};
@@ -16,7 +16,7 @@ use ms_link::{Link, LinkError};
 use ms_local::{
     Deed, Desk, Keeper, Kept, Message, Work, append_noted, desks_stay, list_texts, write_kept,
 };
-use ms_record::{Ballot, Item, ListId, Record, Sight};
+use ms_record::{Ballot, Item, ListId, Record, Refusal, Sight};
 use ms_replay::sight;
 use std::alloc::Global;
 
@@ -71,11 +71,11 @@ pub(crate) fn keep_round<W: Work + Drop, K: Keeper + Drop, L: Link<FoldClosed> +
             *kept = next;
             Ok(Answer::Kept)
         }
-        Err(OutsideError::Failed) => Ok(Answer::Failed),
-        Err(OutsideError::NoMemory) => {
+        Err(Refusal::NoMemory) => {
             desk.deeds.pop();
             Err(NoMemory)
         }
+        Err(_) => Ok(Answer::Failed),
     }
 }
 

@@ -25,7 +25,7 @@ use Rattle.ms_record.specs.declared.setting.Setting.{Setting}
 use Rattle.ms_record.specs.Logs.{HasPut}
 use Rattle.ms_record.specs.Plans.{PlanView}
 use Rattle.ms_upload.specs.declared.store.Placed.{Placed}
-use Rattle.ms_upload.specs.declared.store.Unplaced.{Unplaced}
+use Rattle.ms_record.specs.declared.refusal.Refusal.{Refusal}
 use Rattle.ms_upload.specs.declared.visit.Met.{Met}
 use Rattle.ms_upload.specs.declared.visit.Met.TheVariants.{Present, Taken, AskFailed, PutFailed, AskStale, PutStale}
 use Rattle.ms_upload.specs.Jobs.{AreFresh, Follows, IsDone, LacksPlaces}
@@ -159,7 +159,7 @@ job_named (job ∷ jobs) name there = elim (in_cases job.name (map (λ (j : Job)
   | inr later ↦ (let p = job_named jobs name later in (p.0, in_later job jobs p.0 p.1, p.2))
 ]
 
-pub all_enough : (plan : PlanView) (objects : StoreView) (old new : DeskView) (result : Result Placed Unplaced) → ((name : Name) → IsPermutation (services_of plan) (order_of plan name)) → Places plan objects old new result
+pub all_enough : (plan : PlanView) (objects : StoreView) (old new : DeskView) (result : Result Placed Refusal) → ((name : Name) → IsPermutation (services_of plan) (order_of plan name)) → Places plan objects old new result
     → OnTold old (IfOk result (λ placed. AreOnEnough plan objects new))
 all_enough plan objects old new (Ok placed) same h = λ setting known name there.
     let names : map (λ (job : Job). job.name) h.jobs ≡ names_in objects = h.names ∙ (ap (λ (n : ℕ). take n (names_in objects)) h.answer.1 ∙ take-length (names_in objects)) in
@@ -169,7 +169,7 @@ all_enough plan objects old new (Ok placed) same h = λ setting known name there
 all_enough plan objects old new (Err error) same h = λ setting known. tt
 
 -- the objects of a version are placed where those of the store are
-pub all_placed : (plan : PlanView) (objects : StoreView) (old new : DeskView) (version : Name) (result : Result Placed Unplaced) → ((name : Name) → Contains (names_in objects) name ↔ IsSome (text_of objects name.0))
+pub all_placed : (plan : PlanView) (objects : StoreView) (old new : DeskView) (version : Name) (result : Result Placed Refusal) → ((name : Name) → Contains (names_in objects) name ↔ IsSome (text_of objects name.0))
     → HoldsVersion plan.format (text_of objects) version → OnTold old (IfOk result (λ placed. AreOnEnough plan objects new)) → OnTold old (IfOk result (λ placed. IsPlaced (log_in new.pass.lists) plan version))
 all_placed plan objects old new version (Ok placed) there holds enough = λ setting known. record {
   store = text_of objects;

@@ -22,7 +22,8 @@ use Rattle.ms_upload.specs.declared.tally.Tally.{Tally}
 use Rattle.ms_upload.specs.declared.visit.Met.{Met}
 use Rattle.ms_upload.specs.declared.visit.Met.TheVariants.{Present, Taken}
 use Rattle.ms_upload.specs.Jobs.{AreBelow, AreFresh, EndsBy, Follows, PlacesOne, Visited, VisitedTo, job_of}
-use Rattle.ms_upload.specs.Laying.{Lays, Visits}
+use Rattle.ms_local.specs.Laying.{Lays}
+use Rattle.ms_upload.specs.Asking.{Visits}
 use Rattle.ms_upload.specs.Tallies.{IsTally}
 use Rattle.ms_upload.specs.Visits.{Visit, accepted, counts_present, counts_put, floor_in, job_deeds, met_deeds, visit_deeds}
 use Rattle.ms_upload.proofs.Counting.{present_one, puts_one}

@@ -1,4 +1,3 @@
-mod Deeds
 mod Visiting
 mod Counting
 mod Following

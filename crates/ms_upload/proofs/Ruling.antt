@@ -19,10 +19,9 @@ use Rattle.ms_object.specs.Stores.{StoreView, name_cmp, names_in}
 use Rattle.ms_plan.specs.Mapping.{order_of, services_of}
 use Rattle.ms_record.specs.Plans.{IsPlan, PlanView}
 use Rattle.ms_upload.specs.declared.store.Placed.{Placed}
-use Rattle.ms_upload.specs.declared.store.Unplaced.{Unplaced}
-use Rattle.ms_upload.specs.declared.store.Unplaced.TheVariants.{Collected, NoMemory, TooFew}
+use Rattle.ms_record.specs.declared.refusal.Refusal.{Refusal}
+use Rattle.ms_record.specs.declared.refusal.Refusal.TheVariants.{Broken, Collected, Contended, LocalDamaged, Limit, LostObject, NoMajority, NoMemory, NotEnabled, OutsideFault, BadInput, Split, TooFew, Unlisted, Usage}
 use Rattle.ms_upload.specs.Jobs.{Follows, IsCutBehind, IsDone}
-use Rattle.ms_upload.specs.Laying.{IsObjectDeed}
 use Rattle.ms_upload.specs.declared.visit.Met.{Met}
 use Rattle.ms_upload.specs.declared.visit.Met.TheVariants.{Present, Taken, AskFailed, PutFailed, AskStale, PutStale}
 use Rattle.ms_upload.specs.Placings.{Goes, KeepsPlacing, Places, jobs_deeds}
@@ -30,6 +29,12 @@ use Rattle.ms_upload.specs.Visits.{Job, asked_deed, did_accept, job_deeds, met_d
 use Rattle.ms_upload.proofs.Enough.{accepted_by, job_count, job_named}
 use Rattle.ms_upload.proofs.Obeying.{AreApart, IsApart, all_rows, cut_obeys, jobs_apart, jobs_obey, row_of, rows_of, sorted_front}
 use Rattle.ms_upload.proofs.Storing.{flat_has}
+
+-- a deed of placing
+abbrev IsPlacingDeed : Deed → Type 0
+IsPlacingDeed (Asked service generation name present ok floor) = Unit {0}
+IsPlacingDeed (Put service generation name ok floor) = Unit {0}
+IsPlacingDeed deed = ⊥
 
 -- ---- a placing has begun with its first deed
 
@@ -40,13 +45,13 @@ none_ends : {X : Type 0} (xs : List X) (x : X) → xs ++ x ∷ [] ≡ [] → ⊥
 none_ends [] x e = cc e
 none_ends (y ∷ xs) x e = cc e
 
-one_object : (d deed : Deed) → IsObjectDeed d → Contains (d ∷ []) deed → IsObjectDeed deed
-one_object d deed is there = elim (in_cases d [] deed there) [ inl same ↦ subst IsObjectDeed same is | inr later ↦ absurd (in_none deed later) ]
+one_object : (d deed : Deed) → IsPlacingDeed d → Contains (d ∷ []) deed → IsPlacingDeed deed
+one_object d deed is there = elim (in_cases d [] deed there) [ inl same ↦ subst IsPlacingDeed same is | inr later ↦ absurd (in_none deed later) ]
 
-two_objects : (d e deed : Deed) → IsObjectDeed d → IsObjectDeed e → Contains (d ∷ e ∷ []) deed → IsObjectDeed deed
-two_objects d e deed is also there = elim (in_cases d (e ∷ []) deed there) [ inl same ↦ subst IsObjectDeed same is | inr later ↦ one_object e deed also later ]
+two_objects : (d e deed : Deed) → IsPlacingDeed d → IsPlacingDeed e → Contains (d ∷ e ∷ []) deed → IsPlacingDeed deed
+two_objects d e deed is also there = elim (in_cases d (e ∷ []) deed there) [ inl same ↦ subst IsPlacingDeed same is | inr later ↦ one_object e deed also later ]
 
-met_objects : (s : ServiceId) (generation : ℕ) (name : Name) (met : Met) (deed : Deed) → Contains (met_deeds s generation name met) deed → IsObjectDeed deed
+met_objects : (s : ServiceId) (generation : ℕ) (name : Name) (met : Met) (deed : Deed) → Contains (met_deeds s generation name met) deed → IsPlacingDeed deed
 met_objects s generation name Present deed there = one_object (asked_deed s generation name (Ok true)) deed tt there
 met_objects s generation name AskFailed deed there = one_object (asked_deed s generation name (Err Failed)) deed tt there
 met_objects s generation name (AskStale floor) deed there = one_object (asked_deed s generation name (Err (Stale floor))) deed tt there
@@ -58,20 +63,20 @@ flat_from : {X Y : Type 0} (f : X → List Y) (xs : List X) (y : Y) → Contains
 flat_from f [] y there = absurd (in_none y there)
 flat_from f (x ∷ xs) y there = elim (Contains-append_cases (f x) (flat_map f xs) y there) [ inl here ↦ (x, here) | inr later ↦ flat_from f xs y later ]
 
-jobs_objects : (generation : ℕ) (jobs : List Job) (deed : Deed) → Contains (jobs_deeds generation jobs) deed → IsObjectDeed deed
+jobs_objects : (generation : ℕ) (jobs : List Job) (deed : Deed) → Contains (jobs_deeds generation jobs) deed → IsPlacingDeed deed
 jobs_objects generation jobs deed there =
     let job = flat_from (job_deeds generation) jobs deed there in
     let v = flat_from (visit_deeds generation job.0.name) job.0.visits deed job.1 in
     met_objects v.0.service generation job.0.name v.0.met deed v.1
 
-cut_objects : (plan : PlanView) (job : Job) (cut : List Deed) → IsCutBehind plan job cut → (deed : Deed) → Contains cut deed → IsObjectDeed deed
+cut_objects : (plan : PlanView) (job : Job) (cut : List Deed) → IsCutBehind plan job cut → (deed : Deed) → Contains cut deed → IsPlacingDeed deed
 cut_objects plan job cut c deed there = elim c.deeds [
   | inl none ↦ absurd (in_none deed (subst (λ (ds : List Deed). Contains ds deed) none there))
   | inr one ↦ one_object (asked_deed c.service plan.generation job.name (Ok false)) deed tt (subst (λ (ds : List Deed). Contains ds deed) one there)
 ]
 
 -- a plan under which is placed stays
-plan_stays : (s t : Placing) (deeds : List Deed) → ((deed : Deed) → Contains deeds deed → IsObjectDeed deed) → Obeys PlacesNext s deeds t → s.plan ≢ None → t.plan ≢ None
+plan_stays : (s t : Placing) (deeds : List Deed) → ((deed : Deed) → Contains deeds deed → IsPlacingDeed deed) → Obeys PlacesNext s deeds t → s.plan ≢ None → t.plan ≢ None
 plan_stays s t [] objects h some = λ none. some (ap (λ (x : Placing). x.plan) (sym h) ∙ none)
 plan_stays s t (Asked service generation name present ok floor ∷ deeds) objects h some =
     plan_stays h.0 t deeds (λ deed there. objects deed (in_later (Asked service generation name present ok floor) deeds deed there)) h.2 (λ e. some_none h.1.0 (sym (ap (λ (x : Placing). x.plan) h.1.5) ∙ e))
@@ -79,7 +84,7 @@ plan_stays s t (Put service generation name ok floor ∷ deeds) objects h some =
     plan_stays h.0 t deeds (λ deed there. objects deed (in_later (Put service generation name ok floor) deeds deed there)) h.2 (λ e. some (sym (ap (λ (x : Placing). x.plan) h.1.2) ∙ e))
 plan_stays s t (deed ∷ deeds) objects h some = absurd (objects deed (in_here deed deeds))
 
-begins : (s t : Placing) (plan : PlanView) (rest : List Purpose) (deeds : List Deed) → s.asked ≡ [] → ((deed : Deed) → Contains deeds deed → IsObjectDeed deed) → Obeys PlacesNext s deeds t → IsUnder t plan rest
+begins : (s t : Placing) (plan : PlanView) (rest : List Purpose) (deeds : List Deed) → s.asked ≡ [] → ((deed : Deed) → Contains deeds deed → IsPlacingDeed deed) → Obeys PlacesNext s deeds t → IsUnder t plan rest
     → ((deeds ≡ []) × (t ≡ s)) ⊎ ((t.plan ≡ Some plan) × (t.own ≡ rest))
 begins s t plan rest [] fresh objects h under = inl (refl, h)
 begins s t plan rest (Asked service generation name present ok floor ∷ deeds) fresh objects h (inl is) = inr (is.0, sym is.1)
@@ -120,7 +125,7 @@ module _ (plan : PlanView) (objects : StoreView) (old new : DeskView) (rules : I
   }
 
   -- without a cut
-  plain : (result : Result Placed Unplaced) (h : Places plan objects old new result) → h.cut ≡ [] → ((t : Placing) → t.asked ≡ s.asked ++ all_rows plan.generation h.jobs
+  plain : (result : Result Placed Refusal) (h : Places plan objects old new result) → h.cut ≡ [] → ((t : Placing) → t.asked ≡ s.asked ++ all_rows plan.generation h.jobs
       → IfOk result (λ placed. (name : Name) → Contains (names_in objects) name → OnEnough (HasAccepted t.asked plan.generation name) plan)) → KeepsPlacing plan objects old new s rest result
   plain result h none ends =
       let run = jobs_obey plan rules same rest s h.jobs (apart_by h.jobs h.names) (λ job there. none_asked job.name) (follow_by h.jobs h.goes) under in
@@ -133,7 +138,7 @@ module _ (plan : PlanView) (objects : StoreView) (old new : DeskView) (rules : I
         accepted = ends run.0 run.3;
       }
 
-  pub rule_kept : (result : Result Placed Unplaced) → Places plan objects old new result → KeepsPlacing plan objects old new s rest result
+  pub rule_kept : (result : Result Placed Refusal) → Places plan objects old new result → KeepsPlacing plan objects old new s rest result
   rule_kept (Ok placed) h = plain (Ok placed) h h.answer.0 (λ t asked name there.
       let names : map (λ (job : Job). job.name) h.jobs ≡ names_in objects = h.names ∙ (ap (λ (n : ℕ). take n (names_in objects)) h.answer.1 ∙ take-length (names_in objects)) in
       let p = job_named h.jobs name (subst (λ (xs : List Name). Contains xs name) (sym names) there) in
@@ -141,6 +146,18 @@ module _ (plan : PlanView) (objects : StoreView) (old new : DeskView) (rules : I
       (accepted_rows h.jobs t.asked asked p.0 p.1 (follow_by h.jobs h.goes p.0 p.1) (All-contains (IsDone plan) h.jobs p.0 h.answer.2 p.1)))
   rule_kept (Err (TooFew name failed)) h = plain (Err (TooFew name failed)) h h.answer.0 (λ t asked. tt)
   rule_kept (Err (Collected floor)) h = plain (Err (Collected floor)) h h.answer.0 (λ t asked. tt)
+  rule_kept (Err Usage) h = absurd h.answer
+  rule_kept (Err (BadInput spot line)) h = absurd h.answer
+  rule_kept (Err (OutsideFault spot)) h = absurd h.answer
+  rule_kept (Err (NoMajority failed)) h = absurd h.answer
+  rule_kept (Err (Contended rivals)) h = absurd h.answer
+  rule_kept (Err (LostObject name rows)) h = absurd h.answer
+  rule_kept (Err (LocalDamaged key)) h = absurd h.answer
+  rule_kept (Err (Split position first second)) h = absurd h.answer
+  rule_kept (Err (Limit what value)) h = absurd h.answer
+  rule_kept (Err (NotEnabled event why)) h = absurd h.answer
+  rule_kept (Err (Unlisted service ballot)) h = absurd h.answer
+  rule_kept (Err (Broken name)) h = absurd h.answer
   rule_kept (Err NoMemory) h = elim h.answer [
     | inl none ↦ plain (Err NoMemory) h none (λ t asked. tt)
     | inr c ↦

@@ -19,13 +19,13 @@ use Rattle.ms_object.specs.Stores.{StoreView, names_in}
 use Rattle.ms_record.specs.declared.log.LogEvent.TheVariants.{Drop}
 use Rattle.ms_record.specs.Plans.{PlanView}
 use Rattle.ms_upload.specs.declared.store.Placed.{Placed}
-use Rattle.ms_upload.specs.declared.store.Unplaced.{Unplaced}
-use Rattle.ms_upload.specs.declared.store.Unplaced.TheVariants.{Collected, NoMemory, TooFew}
+use Rattle.ms_record.specs.declared.refusal.Refusal.{Refusal}
+use Rattle.ms_record.specs.declared.refusal.Refusal.TheVariants.{Collected, NoMemory, TooFew}
 use Rattle.ms_upload.specs.declared.visit.Met.{Met}
 use Rattle.ms_upload.specs.declared.visit.Met.TheVariants.{Present, Taken, AskFailed, PutFailed, AskStale, PutStale}
 use Rattle.ms_upload.specs.declared.placing.End.TheVariants.{Done, Stale as EndStale, TooFew as EndTooFew}
 use Rattle.ms_upload.specs.Jobs.{AreBelow, EndsStale, Follows, IsCutBehind, IsDone, LacksPlaces, PlacesOne, Visited}
-use Rattle.ms_upload.specs.Laying.{Lays}
+use Rattle.ms_local.specs.Laying.{Lays}
 use Rattle.ms_upload.specs.Placings.{Answers, FirstUndone, Goes, PlacedTo, Places, all_present, all_puts, jobs_deeds}
 use Rattle.ms_upload.specs.Visits.{Job, MetAt, Visit, asked_deed, counts_present, counts_put, floor_in, job_deeds, met_deeds, present_in, put_deed, puts_in, visit_deeds}
 
@@ -162,7 +162,7 @@ module _ (plan : PlanView) (objects : StoreView) (old mid : DeskView) (place : �
     abbrev pub first_here : FirstUndone plan (h.jobs ++ v.job ∷ [])
     first_here = record { front = h.jobs; job = v.job; back = []; jobs_are = refl; done = h.done }
 
-    pub places_by : (result : Result Placed Unplaced) → Answers plan objects old new (h.jobs ++ v.job ∷ []) cut result → Places plan objects old new result
+    pub places_by : (result : Result Placed Refusal) → Answers plan objects old new (h.jobs ++ v.job ∷ []) cut result → Places plan objects old new result
     places_by result answer = record { jobs = h.jobs ++ v.job ∷ []; cut = cut; names = names_all; goes = goes_all plan old new (h.jobs ++ v.job ∷ []) cut all_next lays_next; lays = lays_next; answer = answer }
 
     pub placed_cut : IsCutBehind plan v.job cut → Places plan objects old new (Err NoMemory)

@@ -21,7 +21,8 @@ use Rattle.ms_local.specs.Desks.{DeskView, IsDesk, with_deed}
 use Rattle.ms_local.specs.ObjectCalls.{HasNoted, PutsNoted}
 use Rattle.ms_local.specs.Truths.{IsTrueDeed}
 use Rattle.ms_upload.specs.declared.visit.Met.{Met}
-use Rattle.ms_upload.specs.Laying.{AsksOne, IsObjectDeed, Lays, PutsThere, Visits}
+use Rattle.ms_local.specs.Laying.{IsObjectDeed, Lays}
+use Rattle.ms_upload.specs.Asking.{AsksOne, PutsThere, Visits}
 use Rattle.ms_upload.specs.Visits.{asked_deed, met_by, put_deed}
 
 -- the event of an item is one of the log

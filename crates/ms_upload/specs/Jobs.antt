@@ -11,7 +11,7 @@ use Rattle.ms_record.specs.Plans.{PlanView}
 use Rattle.ms_upload.specs.declared.placing.End.{End}
 use Rattle.ms_upload.specs.declared.placing.End.TheVariants.{Done, Stale, TooFew}
 use Rattle.ms_upload.specs.declared.tally.Tally.{Tally}
-use Rattle.ms_upload.specs.Laying.{Lays}
+use Rattle.ms_local.specs.Laying.{Lays}
 use Rattle.ms_upload.specs.Tallies.{IsTally}
 use Rattle.ms_upload.specs.Visits.{IsCut, Job, Visit, accepted, did_fail, floor_in, job_deeds, present_in, puts_in}
 

@@ -1,5 +1,5 @@
 pub mod Visits
-pub mod Laying
+pub mod Asking
 pub mod Tallies
 pub mod Jobs
 pub mod Placings

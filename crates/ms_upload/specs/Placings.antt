@@ -12,10 +12,10 @@ use Rattle.ms_record.specs.declared.log.LogEvent.TheVariants.{Drop}
 use Rattle.ms_record.specs.Logs.{HasPut}
 use Rattle.ms_record.specs.Plans.{PlanView}
 use Rattle.ms_upload.specs.declared.store.Placed.{Placed}
-use Rattle.ms_upload.specs.declared.store.Unplaced.{Unplaced}
-use Rattle.ms_upload.specs.declared.store.Unplaced.TheVariants.{Collected, NoMemory, TooFew}
+use Rattle.ms_record.specs.declared.refusal.Refusal.{Refusal}
+use Rattle.ms_record.specs.declared.refusal.Refusal.TheVariants.{Collected, NoMemory, TooFew}
 use Rattle.ms_upload.specs.Jobs.{EndsStale, Follows, IsCutBehind, IsDone, LacksPlaces}
-use Rattle.ms_upload.specs.Laying.{Lays}
+use Rattle.ms_local.specs.Laying.{Lays}
 use Rattle.ms_upload.specs.Visits.{Job, TrueMet, Visit, job_deeds, present_in, puts_in}
 
 -- the deeds of jobs, one behind the other, and what was counted of them
@@ -44,16 +44,17 @@ pub record FirstUndone (plan : PlanView) (jobs : List Job) : Type 0 where
   pub done : All (IsDone plan) front
 
 -- of the jobs and of the deeds behind them, by the answer
-abbrev pub Answers : PlanView → StoreView → DeskView → DeskView → List Job → List Deed → Result Placed Unplaced → Type 0
+abbrev pub Answers : PlanView → StoreView → DeskView → DeskView → List Job → List Deed → Result Placed Refusal → Type 0
 Answers plan objects old new jobs cut (Ok placed) =
     (cut ≡ []) × (length jobs ≡ length (names_in objects)) × All (IsDone plan) jobs × (placed.present ≡ all_present jobs) × (placed.puts ≡ all_puts jobs)
 Answers plan objects old new jobs cut (Err (TooFew name failed)) = (cut ≡ []) × (first : FirstUndone plan jobs) × (name ≡ first.job.name) × LacksPlaces plan first.job failed
 Answers plan objects old new jobs cut (Err (Collected floor)) =
     (cut ≡ []) × (first : FirstUndone plan jobs) × EndsStale first.job floor × (plan.generation < floor) × OnTold old ((s : ℕ) × Contains (log_in new.pass.lists s) (Drop floor))
 Answers plan objects old new jobs cut (Err NoMemory) = (cut ≡ []) ⊎ ((front : List Job) × (job : Job) × (jobs ≡ front ++ job ∷ []) × IsCutBehind plan job cut)
+Answers plan objects old new jobs cut (Err refusal) = ⊥
 
 -- the jobs of the first names of the store, and what they leave of the desk
-pub record Places (plan : PlanView) (objects : StoreView) (old new : DeskView) (result : Result Placed Unplaced) : Type 0 where
+pub record Places (plan : PlanView) (objects : StoreView) (old new : DeskView) (result : Result Placed Refusal) : Type 0 where
   pub jobs : List Job
   pub cut : List Deed
   pub names : map (λ (job : Job). job.name) jobs ≡ take (length jobs) (names_in objects)
@@ -78,7 +79,7 @@ AreOnEnough plan objects new = (name : Name) → Contains (names_in objects) nam
 
 -- From a state in which is placed under this plan the deeds keep the rule of placing: without a deed the state is as before, else it is
 -- placed under the plan by then. Where all is placed, enough services of the plan have accepted each object.
-pub record KeepsPlacing (plan : PlanView) (objects : StoreView) (old new : DeskView) (s : Placing) (rest : List Purpose) (result : Result Placed Unplaced) : Type 0 where
+pub record KeepsPlacing (plan : PlanView) (objects : StoreView) (old new : DeskView) (s : Placing) (rest : List Purpose) (result : Result Placed Refusal) : Type 0 where
   pub t : Placing
   pub deeds : List Deed
   pub grows : new.deeds ≡ old.deeds ++ deeds

@@ -1,7 +1,6 @@
 //! Placing objects: each is put on as many services as its plan has replicas, in the order of the mapping.
 #![tactic(auto)]
 
-mod going;
 mod law;
 mod placing;
 mod store;
@@ -9,5 +8,5 @@ mod tally;
 mod visit;
 
 pub use law::placings;
-pub use store::{Placed, Unplaced, place};
+pub use store::{Placed, place};
 pub use visit::Met;

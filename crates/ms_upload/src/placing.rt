@@ -9,13 +9,12 @@ ghost use Rattle.ms_plan.specs.Mapping.{order_of, services_of};
 ghost use Rattle.ms_upload.specs.declared.placing.End.TheVariants as ends;
 ghost use Rattle.ms_upload.specs.Jobs.{AreBelow, EndsBy, PlacesOne};
 
-use crate::going::desks_lay;
 use crate::tally::{Tally, floor_of};
 use crate::visit::visit;
 use ms_base::{Name, NoMemory, ServiceId};
 use ms_core::FoldClosed;
 use ms_link::Link;
-use ms_local::{Desk, Keeper, Work};
+use ms_local::{Desk, Keeper, Work, desks_lay};
 use ms_record::{Plan, ServiceSet};
 use std::alloc::Global;
 

@@ -13,15 +13,14 @@ ghost use Rattle.ms_local.specs.Placing.{IsUnder, Placing, Purpose};
 ghost use Rattle.ms_upload.specs.Jobs.{AreBelow, PlacesOne};
 ghost use Rattle.ms_upload.specs.Placings.{AreOnEnough, KeepsPlacing, Places};
 
-use crate::going::desks_lay;
 use crate::placing::{End, place_one};
 use ms_base::{Gate, Name, NoMemory, Point};
 use ms_core::FoldClosed;
 use ms_link::Link;
-use ms_local::{Desk, Keeper, Work};
+use ms_local::{Desk, Keeper, Work, desks_lay};
 use ms_object::Store;
 use ms_plan::{Table, orders_are_sorted};
-use ms_record::{Plan, ServiceSet};
+use ms_record::{Plan, Refusal};
 use std::alloc::Global;
 
 /// What was placed.
@@ -33,26 +32,17 @@ pub struct Placed {
     pub present: u64,
 }
 
-/// Why not all was placed. What was put before stays.
-#[derive(Clone, Copy)]
-pub enum Unplaced {
-    /// Too few of the plan's services accepted the object; the links to these failed.
-    TooFew { name: Name, failed: ServiceSet },
-    /// A service has dropped what lies below this floor, and the plan's generation with it.
-    Collected { floor: u32 },
-    /// Memory ran out.
-    NoMemory,
-}
-
 /// Puts each object of the store on as many services as the plan has replicas, in the plan's generation, by the first lane: name by
-/// name, and of each object service by service in its order. Who has it already counts as one that took it.
+/// name, and of each object service by service in its order. Who has it already counts as one that took it. `TooFew` where fewer
+/// than that accepted an object and no service showed a floor; `Collected` where a service has dropped the plan's generation. What
+/// was put before stays: `docs/PROTOCOL.md`, placing.
 pub fn place<W: Work + Drop, K: Keeper + Drop, L: Link<FoldClosed> + Drop, G: Gate>(
     alloc: Global,
     desk: &mut Desk<W, K, L>,
     plan: &Plan,
     objects: &Store,
     gate: &G,
-) -> Result<Placed, Unplaced>
+) -> Result<Placed, Refusal>
     requires desk { IsDesk (desk_view W.sees K.sees L.sees desk.old) }
     requires known { AreBelow plan.now desk.old.services }
     requires short { (name text : List ℕ) → text_of objects.now name ≡ Some text → length text ≤ OBJECT_BYTES }
@@ -80,7 +70,7 @@ fn place_all<W: Work + Drop, K: Keeper + Drop, L: Link<FoldClosed> + Drop, G: Ga
     plan: &Plan,
     objects: &Store,
     gate: &G,
-) -> Result<Placed, Unplaced>
+) -> Result<Placed, Refusal>
     requires desk { IsDesk (desk_view W.sees K.sees L.sees desk.old) }
     requires known { AreBelow plan.now desk.old.services }
     requires short { (name text : List ℕ) → text_of objects.now name ≡ Some text → length text ≤ OBJECT_BYTES }
@@ -89,11 +79,11 @@ fn place_all<W: Work + Drop, K: Keeper + Drop, L: Link<FoldClosed> + Drop, G: Ga
     desks_lay();
     let table = match Table::new(alloc, plan) {
         Ok(table) => table,
-        Err(_) => return Err(Unplaced::NoMemory),
+        Err(_) => return Err(Refusal::NoMemory),
     };
     let names = match objects.names(alloc) {
         Ok(names) => names,
-        Err(_) => return Err(Unplaced::NoMemory),
+        Err(_) => return Err(Refusal::NoMemory),
     };
     let mut placed = Placed {
         puts: 0,
@@ -108,7 +98,7 @@ fn place_all<W: Work + Drop, K: Keeper + Drop, L: Link<FoldClosed> + Drop, G: Ga
         let name = names[place];
         let end = match place_next(alloc, desk, plan, &table, objects, &name) {
             Ok(end) => end,
-            Err(_) => return Err(Unplaced::NoMemory),
+            Err(_) => return Err(Refusal::NoMemory),
         };
         let _deeds = desk.deeds.len();
         match end {
@@ -116,8 +106,8 @@ fn place_all<W: Work + Drop, K: Keeper + Drop, L: Link<FoldClosed> + Drop, G: Ga
                 placed.present += present as u64;
                 placed.puts += puts as u64;
             }
-            End::Stale { floor } => return Err(Unplaced::Collected { floor }),
-            End::TooFew { failed } => return Err(Unplaced::TooFew { name, failed }),
+            End::Stale { floor } => return Err(Refusal::Collected { floor }),
+            End::TooFew { failed } => return Err(Refusal::TooFew { name, failed }),
         }
     }
     Ok(placed)

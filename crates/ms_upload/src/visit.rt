@@ -4,14 +4,13 @@ ghost use Rattle.std.specs.Prelude.{◌≡◌, ◌<◌, ◌≤◌, length};
 ghost use Rattle.ms_base.specs.declared.limits.TheConstants.{OBJECT_BYTES};
 ghost use Rattle.ms_object.specs.Objects.{name_of as sha_name};
 ghost use Rattle.ms_local.specs.Desks.{IsDesk, desk_view};
-ghost use Rattle.ms_upload.specs.Laying.{AsksOne, PutsThere, Visits};
+ghost use Rattle.ms_upload.specs.Asking.{AsksOne, PutsThere, Visits};
 ghost use Rattle.ms_upload.specs.Visits.{met_by as put_met_by};
 
-use crate::going::desks_lay;
 use ms_base::{Name, NoMemory, ServiceId};
 use ms_core::FoldClosed;
 use ms_link::Link;
-use ms_local::{Desk, Keeper, Miss, Work, has_noted, put_noted};
+use ms_local::{Desk, Keeper, Miss, Work, desks_lay, has_noted, put_noted};
 use std::alloc::Global;
 
 /// How a service met an object.

@@ -1,5 +1,5 @@
 use Rattle.ms_record.specs.declared.item.Item.TheVariants.{Told}
-use Rattle.ms_local.proofs.GoingOn.{faults_go, fault_wider, goes_called, goes_noted, goes_on, goes_self}
+use Rattle.ms_local.proofs.GoingOn.{faults_go, fault_wider, goes_called, goes_noted, goes_on, goes_self, tells_on}
 use Rattle.ms_local.proofs.deed_law.desks_go_on.Goals as goal
 
 pub returns-clause-nothing : goal.returns-clause-nothing
@@ -25,3 +25,6 @@ returns-clause-faults c = λ old new service goes. faults_go old new service goe
 
 pub returns-clause-wider : goal.returns-clause-wider
 returns-clause-wider c = λ old low high new service before after fault. fault_wider old low high new before after service fault
+
+pub returns-clause-tells : goal.returns-clause-tells
+returns-clause-tells c = λ old new s goes told. tells_on old new s goes.lanes told

@@ -1,4 +1,4 @@
-use Rattle.ms_local.proofs.DeskLaws.{deed_stays, work_stays, call_stays, read_stays, object_stays, state_stays, offer_stays}
+use Rattle.ms_local.proofs.DeskLaws.{deed_stays, work_stays, call_stays, read_stays, object_stays, objects_stay, state_stays, offer_stays}
 use Rattle.ms_local.proofs.FirstLane.{lanes_on, lanes_self}
 use Rattle.ms_local.proofs.desk_law.desks_stay.Goals as goal
 
@@ -16,6 +16,9 @@ returns-clause-read c = read_stays
 
 pub returns-clause-object : goal.returns-clause-object
 returns-clause-object c = object_stays
+
+pub returns-clause-objects : goal.returns-clause-objects
+returns-clause-objects c = objects_stay
 
 pub returns-clause-state : goal.returns-clause-state
 returns-clause-state c = state_stays

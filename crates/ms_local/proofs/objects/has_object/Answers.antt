@@ -1,4 +1,4 @@
-use Rattle.std.proofs.Common.{◌≡◌, ℕ, ◌<◌, refl, sym, ap, ◌∙◌, subst, length, arith}
+use Rattle.std.proofs.Common.{refl, sym, subst, arith}
 use Rattle.std.specs.Vec.{with_item}
 use Rattle.ms_ken.specs.Known.{TableId}
 use Rattle.ms_link.specs.Links.{IsOnBoard}

@@ -4,7 +4,8 @@ use Rattle.ms_upload.specs.declared.placing.End.{End}
 use Rattle.ms_upload.specs.declared.visit.Met.TheVariants.{Present}
 use Rattle.ms_plan.specs.Mapping.{order_of}
 use Rattle.ms_upload.specs.Jobs.{EndsBy, PlacesOne}
-use Rattle.ms_upload.specs.Laying.{Lays, Visits}
+use Rattle.ms_local.specs.Laying.{Lays}
+use Rattle.ms_upload.specs.Asking.{Visits}
 use Rattle.ms_upload.specs.Visits.{met_deeds}
 use Rattle.ms_upload.proofs.Following.{known_service, next_service, services_stay, visited_all, visited_cut, visited_done, visited_next, visited_none, visited_stale}
 use Rattle.ms_upload.proofs.placing.place_one.Goals as goal

@@ -1,7 +1,7 @@
 use Rattle.std.proofs.Common.{Ok, sym, subst}
 use Rattle.ms_local.specs.Desks.{desk_view}
 use Rattle.ms_upload.specs.declared.visit.Met.{Met}
-use Rattle.ms_upload.specs.Laying.{PutsThere}
+use Rattle.ms_upload.specs.Asking.{PutsThere}
 use Rattle.ms_upload.proofs.Visiting.{put_cut, put_met}
 use Rattle.ms_upload.proofs.visit.put_there.Goals as goal
 

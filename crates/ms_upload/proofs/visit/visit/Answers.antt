@@ -1,7 +1,7 @@
 use Rattle.std.proofs.Common.{◌∙◌, Bool, Result, Ok, ap, subst}
 use Rattle.ms_local.specs.declared.objects.Miss.{Miss}
 use Rattle.ms_local.specs.Desks.{desk_view}
-use Rattle.ms_upload.specs.Laying.{AsksOne}
+use Rattle.ms_upload.specs.Asking.{AsksOne}
 use Rattle.ms_upload.proofs.Visiting.{both}
 use Rattle.ms_upload.proofs.visit.visit.Goals as goal
 

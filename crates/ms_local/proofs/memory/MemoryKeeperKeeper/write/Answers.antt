@@ -1,6 +1,6 @@
 use Rattle.std.proofs.Common.{sym, subst, List, ℕ}
-use Rattle.ms_local.specs.declared.kept.Key.{Key}
-use Rattle.ms_local.specs.declared.kept.Key.TheVariants.{Object}
+use Rattle.ms_record.specs.declared.key.Key.{Key}
+use Rattle.ms_record.specs.declared.key.Key.TheVariants.{Object}
 use Rattle.ms_local.specs.Outside.{IsKept}
 use Rattle.ms_local.specs.Memory.{Shelf, texts_by}
 use Rattle.ms_local.proofs.KeyLaws.{object_kept}

@@ -1,8 +1,8 @@
 use Rattle.std.proofs.Common.{List, [], ◌∷◌, ◌++◌, append_assoc, refl, sym, ap, ◌∙◌}
 use Rattle.std.proofs.lemmas.List.{append-nil}
 use Rattle.ms_local.specs.declared.deed.Deed.{Deed}
-use Rattle.ms_upload.proofs.Deeds.{called_grows, no_looks, no_offers, noted_grows}
-use Rattle.ms_upload.proofs.going.desks_lay.Goals as goal
+use Rattle.ms_local.proofs.ObjectDeeds.{called_grows, no_looks, no_offers, noted_grows}
+use Rattle.ms_local.proofs.deed_law.desks_lay.Goals as goal
 
 pub returns-clause-nothing : goal.returns-clause-nothing
 returns-clause-nothing c = λ desk is. record {

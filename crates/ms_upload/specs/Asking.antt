@@ -1,31 +1,14 @@
--- What calls leave of a desk, by the deeds that were noted.
-use Rattle.std.specs.Prelude.{◌≡◌, ℕ, Bool, false, List, [], ◌∷◌, ◌++◌, Result, Ok, Err}
+-- What a visit leaves of a desk.
+use Rattle.std.specs.Prelude.{◌≡◌, ℕ, Bool, false, List, [], ◌∷◌, Result, Ok, Err}
 use Rattle.ms_base.specs.declared.bytes.NoMemory.{NoMemory}
 use Rattle.ms_base.specs.declared.names.Name.{Name}
 use Rattle.ms_base.specs.declared.names.ServiceId.{ServiceId}
 use Rattle.ms_local.specs.declared.deed.Deed.{Deed}
-use Rattle.ms_local.specs.declared.deed.Deed.TheVariants.{Asked, Put}
 use Rattle.ms_local.specs.declared.objects.Miss.{Miss}
-use Rattle.ms_local.specs.Calls.{DeskGoes, StaysTold}
-use Rattle.ms_local.specs.Desks.{DeskView, IsDesk}
-use Rattle.ms_local.specs.Truths.{OwnHistory, TrueDeeds}
+use Rattle.ms_local.specs.Desks.{DeskView}
+use Rattle.ms_local.specs.Laying.{Lays}
 use Rattle.ms_upload.specs.declared.visit.Met.{Met}
 use Rattle.ms_upload.specs.Visits.{IsCut, asked_deed, met_deeds}
-
--- a deed on an object
-abbrev pub IsObjectDeed : Deed → Type 0
-IsObjectDeed (Asked service generation name present ok floor) = Unit {0}
-IsObjectDeed (Put service generation name ok floor) = Unit {0}
-IsObjectDeed deed = ⊥
-
--- these deeds were done, and they are true; what was told stays told, and the own list is as before
-pub record Lays (old new : DeskView) (deeds : List Deed) : Type 0 where
-  pub effect : DeskGoes old new
-  pub told : StaysTold old new
-  pub grows : new.deeds ≡ old.deeds ++ deeds
-  pub truths : TrueDeeds old new
-  pub history : OwnHistory old new
-  pub desk : IsDesk new
 
 abbrev pub AsksOne : DeskView → DeskView → ServiceId → ℕ → Name → Result (Result Bool Miss) NoMemory → Type 0
 AsksOne old new service generation name (Ok answer) = Lays old new (asked_deed service generation name answer ∷ [])
