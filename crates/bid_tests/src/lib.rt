@@ -1,0 +1,15 @@
+//! Proposing, learning, refs and placing at desks over services in memory, and what each answers.
+#![tactic(auto)]
+
+#[cfg(test)]
+mod bidding;
+#[cfg(test)]
+mod catching_tests;
+#[cfg(test)]
+mod proposal_tests;
+#[cfg(test)]
+mod proposing;
+#[cfg(test)]
+mod shelves;
+#[cfg(test)]
+mod table_tests;
