@@ -1,5 +1,5 @@
 -- Desks at which a client may bid, where nothing is claimed.
-use Rattle.std.proofs.Common.{◌≡◌, ◌<◌, ◌≤◌, List, [], ◌∷◌, Some, refl, arith}
+use Rattle.std.proofs.Common.{◌≡◌, ◌<◌, [], ◌∷◌, Some, refl, arith}
 use Rattle.bid_tests.specs.Bidding.{IsSeat}
 use Rattle.bid_tests.specs.Shelves.{IsUntoldDesk}
 use Rattle.bid_tests.proofs.Seating.{never_told}

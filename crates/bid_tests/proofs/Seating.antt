@@ -1,5 +1,5 @@
 -- Desks on a board on which nothing is claimed: links at their places, and what such a desk may do.
-use Rattle.std.proofs.Common.{◌≡◌, ◌≢◌, ℕ, suc, ◌<◌, ◌≤◌, ◌+◌, Bool, true, false, if◌then◌else◌, List, [], ◌∷◌, ◌++◌, length, map, Option, Some, None, slice_get, length-append, sym, ◌∙◌, ap, subst, inl, inr, ◌⊎◌, refl, Contains, unwrap_or, arith}
+use Rattle.std.proofs.Common.{◌≡◌, ◌≢◌, ℕ, suc, ◌<◌, ◌≤◌, Bool, true, false, if◌then◌else◌, List, [], ◌∷◌, ◌++◌, length, map, Option, Some, None, slice_get, length-append, sym, ◌∙◌, ap, subst, inl, inr, ◌⊎◌, refl, Contains, unwrap_or, arith}
 use Rattle.std.proofs.lemmas.List.{length-map}
 use mathlib.Core.List.{IsPrefix}
 use Rattle.bid_tests.specs.Shelves.{AreLinks, AreShort, IsOneLane, IsReady, IsUntoldDesk, KnowsUntold}
@@ -11,9 +11,8 @@ use Rattle.ms_ken.specs.Known.{TableId}
 use Rattle.ms_ken.specs.Lists.{list_at}
 use Rattle.ms_link.specs.Links.{AllLead, Leads, LinkView}
 use Rattle.ms_local.specs.Calls.{IsSupportedAt}
-use Rattle.ms_local.specs.Desks.{DeskView, IsDesk, IsLane}
+use Rattle.ms_local.specs.Desks.{DeskView, IsLane}
 use Rattle.ms_local.specs.Learning.{ChainView, IsOfDesk}
-use Rattle.ms_object.specs.Objects.{name_of}
 use Rattle.ms_object.specs.Stores.{StoreView, text_after, text_of}
 use Rattle.ms_record.specs.declared.item.Item.{Item}
 use Rattle.ms_record.specs.declared.item.Item.TheVariants.{Told, Untold}
@@ -21,7 +20,6 @@ use Rattle.ms_record.specs.declared.log.LogEvent.{LogEvent}
 use Rattle.ms_record.specs.declared.plan.PlanRow.{PlanRow}
 use Rattle.ms_record.specs.declared.setting.Setting.{Setting}
 use Rattle.ms_record.specs.Plans.{PlanView}
-use Rattle.ms_plan.specs.Mapping.{services_of}
 use Rattle.ms_upload.specs.Jobs.{AreBelow}
 
 -- ---- links

@@ -1,5 +1,5 @@
 -- Desks over services of the tests' own, on a board on which nothing is claimed.
-use Rattle.std.specs.Prelude.{◌≡◌, ℕ, ◌<◌, ◌≤◌, false, List, [], ◌∷◌, length, slice_get, Some, Result, Ok, Err}
+use Rattle.std.specs.Prelude.{◌≡◌, ℕ, ◌<◌, ◌≤◌, false, List, [], ◌∷◌, length, Some, Result, Ok, Err}
 use mathlib.Core.List.{IsPrefix}
 use Rattle.ms_base.specs.Counts.{Rose}
 use Rattle.ms_base.specs.declared.limits.TheConstants.{OBJECT_BYTES}

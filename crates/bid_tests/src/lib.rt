@@ -4,7 +4,15 @@
 #[cfg(test)]
 mod bidding;
 #[cfg(test)]
+mod call_tests;
+#[cfg(test)]
 mod catching_tests;
+#[cfg(test)]
+mod learning_tests;
+#[cfg(test)]
+mod mark_tests;
+#[cfg(test)]
+mod placing_tests;
 #[cfg(test)]
 mod proposal_tests;
 #[cfg(test)]
