@@ -1,4 +1,4 @@
-//! Proposing, learning, refs and placing at desks over services in memory, and what each answers.
+//! Proposing, learning, refs and calls on objects at desks over services in memory, and what each answers.
 #![tactic(auto)]
 
 #[cfg(test)]
@@ -11,8 +11,6 @@ mod catching_tests;
 mod learning_tests;
 #[cfg(test)]
 mod mark_tests;
-#[cfg(test)]
-mod placing_tests;
 #[cfg(test)]
 mod proposal_tests;
 #[cfg(test)]
